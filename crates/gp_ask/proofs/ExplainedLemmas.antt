@@ -259,7 +259,7 @@ pub record IsExplained (entries : List Entry) : Type 0 where
   pub valid : tables_are_valid (tables_in entries) ≡ true
   pub fit : statements_fit (tables_in entries) entries ≡ true
 
-query_fits : (tables : List Table) (query : y.Query) (select : Select) → tables_are_valid tables ≡ true → query_is_valid query ≡ true → checked_query tables query ≡ Ok select
+pub query_fits : (tables : List Table) (query : y.Query) (select : Select) → tables_are_valid tables ≡ true → query_is_valid query ≡ true → checked_query tables query ≡ Ok select
     → select_fits tables select ≡ true
 query_fits tables query select columns valid is =
     let a = accepted (first_refusal tables (y.select query)) (select_of tables query) select is in
@@ -328,7 +328,7 @@ module _ (entries : List Entry) (is : IsExplained entries) (few : length entries
 
 -- ---- a well-formed dump
 
-dump_explained : (dump : Dump) → IsDump dump → IsExplained dump.entries
+pub dump_explained : (dump : Dump) → IsDump dump → IsExplained dump.entries
 dump_explained dump is =
     let few = is.few_entries in
     let orderly = tables_orderly dump.entries is.commands in

@@ -1,3 +1,4 @@
+mod AnyPrograms
 mod BackendLemmas
 mod CausesLemmas
 mod ChangedLines
@@ -13,6 +14,7 @@ mod ExplainedLemmas
 mod FewLemmas
 mod FittingReplays
 mod FormatLemmas
+pub mod HeadingLines
 mod GroupedRows
 mod HeldLemmas
 mod HypotheticalLemmas
@@ -28,6 +30,7 @@ mod ReenactedLemmas
 mod RemainingLemmas
 mod SeenLemmas
 mod SpanLemmas
+mod SqlLemmas
 mod StatementLines
 mod StopLemmas
 mod TableLemmas

@@ -7,7 +7,9 @@ use Rattle.gp_machine.specs.Entries.{Entry}
 use Rattle.gp_whatif.specs.Changed.{changed_log}
 use Rattle.gp_dump.specs.Dumps.{Dump}
 use Rattle.gp_ask.specs.declared.answered.Answered.{Answered}
-use Rattle.gp_ask.specs.Printed.{answer_to, ask_to, changed_answer}
+use Rattle.gp_ask.specs.declared.format.Format.{Format}
+use Rattle.gp_ask.specs.declared.format.Format.TheVariants.{Sql}
+use Rattle.gp_ask.specs.Printed.{answer_to, ask_to, changed_answer, sql_answer_to}
 use Rattle.gp_ask.specs.Differences.{causes_answer, diff_answer}
 use Rattle.gp_ask.specs.Hypothetical.{replayed_dump}
 
@@ -19,3 +21,8 @@ computed_answer dump (y.what_if change how point query) = what_if_answer dump.en
 computed_answer dump (y.diff first second query) = diff_answer (ask_to dump) (what_if_answer dump.entries) first second query
 computed_answer dump (y.causes kept query) = causes_answer (ask_to dump) (what_if_answer dump.entries) dump.entries kept query
 computed_answer dump question = answer_to dump question
+
+-- the answers that a format is given
+abbrev pub computed_in : Format → Dump → y.Question → Answered
+computed_in Sql dump = sql_answer_to dump
+computed_in format dump = computed_answer dump

@@ -28,6 +28,7 @@ pub mod Remaining
 pub mod Replays
 pub mod Seeing
 pub mod ShownWrites
+pub mod SqlAnswers
 pub mod Texts
 pub mod Titles
 pub mod Transactions

@@ -11,7 +11,7 @@ use Rattle.gp_ask.specs.declared.answered.Answered.{Answered}
 use Rattle.gp_ask.specs.Answers as answers
 use Rattle.gp_ask.specs.Asking as asking
 use Rattle.gp_ask.specs.Hypothetical as hypothetical
-use Rattle.gp_ask.specs.Programs.{program_lines}
+use Rattle.gp_ask.specs.Programs.{program_lines, sql_lines}
 use Rattle.gp_ask.specs.Values.{or_refused}
 
 abbrev pub dump_answer : Dump → y.How → y.Point → Select → Answered
@@ -41,3 +41,11 @@ answer_to = answers.answer_to program_lines
 
 abbrev pub held_to : State Monomial → y.Question → Answered
 held_to = answers.held_to program_lines
+
+-- with texts of SQL
+
+abbrev pub sql_ask_to : Dump → y.How → y.Point → y.Query → Answered
+sql_ask_to = asking.ask_to sql_lines
+
+abbrev pub sql_answer_to : Dump → y.Question → Answered
+sql_answer_to = answers.answer_to sql_lines

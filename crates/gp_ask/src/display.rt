@@ -1,10 +1,12 @@
 //! The texts of answers.
 
-ghost use Rattle.std.specs.Prelude.{◌≡◌, ◌++◌, IfOk, OnErr, OnOk, codes, length, map};
+ghost use Rattle.std.specs.Prelude.{◌≡◌, ◌++◌, ◌∷◌, [], IfOk, OnErr, OnOk, codes, length, map};
+ghost use Rattle.std.specs.Fmt.{decimal};
 ghost use Rattle.std.specs.List.{concat, flat_map};
 ghost use Rattle.gp_base.specs.Numbered as n;
 ghost use Rattle.gp_base.specs.Numbered.{numbered};
 ghost use Rattle.gp_base.specs.Tokens.{monomial_text};
+ghost use Rattle.gp_ask.specs.Formats as f;
 ghost use Rattle.gp_ask.specs.Texts.{answer_text, listed_line, listed_text};
 ghost use Rattle.gp_ask.specs.Texts as t;
 
@@ -245,6 +247,62 @@ fn write_checked(
     ensures err { OnErr result (out.new.items ≡ out.old.items) }
 {
     let text = checked_text(alloc, number, line)?;
+    out.extend_from_slice(&text)?;
+    Ok(())
+}
+
+/// Appends the texts, each with a line feed behind it.
+fn append_ended(texts: &[Text], out: &mut Vec<u8>) -> Result<(), NoMemory>
+    ensures { OnOk result (out.new.items
+        ≡ out.old.items ++ flat_map (λ line. line ++ n.newline) texts.now) }
+{
+    for text in texts {
+        append_all(out, &[text.as_bytes(), b"\n"])?;
+    }
+    Ok(())
+}
+
+/// The lines of a query of SQL behind its number.
+fn query_text(alloc: Global, number: u32, lines: &[Text]) -> Result<Vec<u8>, NoMemory>
+    ensures { IfOk result (λ text. text.items ≡ concat (codes "-- " ∷ decimal number ∷ n.newline
+        ∷ flat_map (λ line. line ++ n.newline) lines.now ∷ [])) }
+{
+    let digits = number.to_string(alloc)?;
+    let mut text = text_of_pieces(alloc, &[b"-- ", digits.as_bytes(), b"\n"])?;
+    append_ended(lines, &mut text)?;
+    Ok(text)
+}
+
+/// A refusal behind its number, in a comment of SQL.
+fn refusal_comment(alloc: Global, number: u32, refusal: &Refusal) -> Result<Vec<u8>, NoMemory>
+    ensures { IfOk result (λ text. text.items ≡ f.sql_refusal number refusal.now) }
+{
+    let refused = refused_text(alloc, number, refusal)?;
+    text_of_pieces(alloc, &[b"-- ", &refused])
+}
+
+/// The text of an answer in SQL. Only queries and refusals are answers there.
+fn sql_text(alloc: Global, number: u32, answered: &Answered) -> Result<Vec<u8>, NoMemory>
+    ensures { IfOk result (λ text. text.items ≡ f.sql_answer_text number answered.now) }
+{
+    match answered {
+        Answered::Program(lines) => query_text(alloc, number, lines.as_slice()),
+        Answered::Refused(refusal) => refusal_comment(alloc, number, refusal),
+        _ => refusal_comment(alloc, number, &Refusal::E30),
+    }
+}
+
+/// Appends an answer in SQL. If memory runs out, `out` is unchanged.
+pub(crate) fn write_sql(
+    alloc: Global,
+    number: u32,
+    answered: &Answered,
+    out: &mut Vec<u8>,
+) -> Result<(), NoMemory>
+    ensures ok { OnOk result (out.new.items ≡ out.old.items ++ f.sql_answer_text number answered.now) }
+    ensures err { OnErr result (out.new.items ≡ out.old.items) }
+{
+    let text = sql_text(alloc, number, answered)?;
     out.extend_from_slice(&text)?;
     Ok(())
 }

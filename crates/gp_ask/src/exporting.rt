@@ -10,10 +10,10 @@ ghost use Rattle.gp_dump.specs.WholeDumps.{IsDump};
 ghost use Rattle.gp_dump.specs.Views.{dump_view};
 ghost use Rattle.gp_log.specs.LogFacts.{tables_in};
 ghost use Rattle.gp_ask.specs.Answerable.{question_is_valid};
-ghost use Rattle.gp_ask.specs.Computed.{computed_answer};
+ghost use Rattle.gp_ask.specs.Computed.{computed_answer, computed_in};
 ghost use Rattle.gp_ask.specs.ExplainedTexts.{ExplainsQuestion};
 ghost use Rattle.gp_ask.specs.Formats as f;
-ghost use Rattle.gp_ask.specs.Formats.{answers_in, asks_rows, exported, exported_records, text_in};
+ghost use Rattle.gp_ask.specs.Formats.{answers_in, heading_in, asks_rows, exported, exported_records, text_in};
 ghost use Rattle.gp_ask.specs.QuestionFiles.{ExplainsIn, ExplainsRead};
 ghost use Rattle.gp_ask.specs.Keeping.{AreKept};
 ghost use Rattle.gp_ask.specs.Questions.{answered};
@@ -21,13 +21,15 @@ ghost use Rattle.gp_ask.specs.Titles.{query_names};
 
 use crate::answered::{Answered, Sheet};
 use crate::answering::{answer, answer_from};
-use crate::display::write_answer;
+use crate::display::{write_answer, write_sql};
 use crate::format::Format;
 use crate::keeping::KeptAnnotations;
+use crate::sql::sql_answer;
 use crate::titles::{difference_titles, row_titles};
 use gp_base::{Catalog, NoMemory, Refusal};
 use gp_csv::{write_answer_csv, write_refusal_csv, write_titled_csv};
 use gp_dump::Dump;
+use gp_sql::write_tables;
 use gp_syntax::{How, Query, Question, ReadStop, read_question};
 use std::alloc::Global;
 
@@ -167,8 +169,9 @@ fn named(
 }
 
 /// Answers a question that was read ([`read_questions_are_valid`](crate::read_questions_are_valid)), in a format: as [`answer`] does, but
-/// CSV refuses one that is no plain AS OF or REENACT (E30), and CSV with names one that does not ask for rows, or for their difference,
-/// whatever it would have been refused for otherwise. Running out of memory is the only error.
+/// CSV refuses one that is no plain AS OF or REENACT (E30), CSV with names one that does not ask for rows, or for their difference, and SQL
+/// one that is no AS OF or REENACT, plain or explained, whatever it would have been refused for otherwise. Running out of memory is the
+/// only error.
 fn answer_in(
     alloc: Global,
     format: Format,
@@ -183,7 +186,7 @@ fn answer_in(
     ensures kept { AreKept dump.now kept.new }
     ensures answered { IfOk result (λ found. found
         ≡ answers_in format (tables_in (dump_view dump.now).entries)
-        (computed_answer (dump_view dump.now)) (question_view question.now)) }
+        (computed_in format (dump_view dump.now)) (question_view question.now)) }
     ensures explained { IfOk result (λ found.
         ExplainsIn format (ExplainsQuestion (dump_view dump.now).entries (question_view question.now))) }
 {
@@ -191,13 +194,15 @@ fn answer_in(
         Format::Text => answer_from(alloc, dump, question, kept),
         Format::Csv => exported(alloc, dump, question),
         Format::Named => named(alloc, dump, question, kept),
+        Format::Sql => sql_answer(alloc, dump, question),
     }
 }
 
 /// Answers a line of a file of questions from a dump, in a format. A line that is no question is refused as
 /// [`read_question`](gp_syntax::read_question) refuses it, in each format. Any other is answered as [`answer`] does, but CSV refuses a
-/// question that is no plain AS OF or REENACT (E30), and CSV with names one that does not ask for rows, or for their difference. Running
-/// out of memory is the only error.
+/// question that is no plain AS OF or REENACT (E30), CSV with names one that does not ask for rows, or for their difference, and SQL one
+/// that is no AS OF or REENACT, plain or explained. SQL answers with the query that asks for the rows, and is refused as EXPLAIN is.
+/// Running out of memory is the only error.
 ///
 /// The annotations that earlier lines left are used, and the line leaves its own. Whatever they are, the answer is that of the line alone.
 pub fn answer_line_in(
@@ -213,7 +218,7 @@ pub fn answer_line_in(
     ensures kept { AreKept dump.now kept.new }
     ensures answered { IfOk result (λ found. found
         ≡ answered (answers_in format (tables_in (dump_view dump.now).entries)
-        (computed_answer (dump_view dump.now))) (question_of line.now)) }
+        (computed_in format (dump_view dump.now))) (question_of line.now)) }
     ensures explained { IfOk result (λ found.
         ExplainsIn format (ExplainsRead (dump_view dump.now).entries (question_of line.now))) }
 {
@@ -287,7 +292,8 @@ fn write_exported(
 }
 
 /// Appends the answer to a question in a format: as text as [`write_answer`] does, as CSV a header, and a record for each row or for the
-/// refusal, which begins with the number of the question's line. If memory runs out, `out` is unchanged.
+/// refusal, which begins with the number of the question's line, and as SQL the query or the refusal behind that number in a comment. If
+/// memory runs out, `out` is unchanged.
 pub fn write_answer_in(
     alloc: Global,
     format: Format,
@@ -305,5 +311,25 @@ pub fn write_answer_in(
             drop(answered);
             written
         }
+        Format::Sql => {
+            let written = write_sql(alloc, number, &answered, out);
+            drop(answered);
+            written
+        }
+    }
+}
+
+/// Appends what comes before all answers in a format: in SQL the row versions of the dump as tables, else nothing.
+pub fn write_heading_in(
+    alloc: Global,
+    format: Format,
+    dump: &Dump,
+    out: &mut Vec<u8>,
+) -> Result<(), NoMemory>
+    ensures { OnOk result (out.new.items ≡ out.old.items ++ heading_in format (dump_view dump.now)) }
+{
+    match format {
+        Format::Sql => write_tables(alloc, dump.log.catalog(), dump.versions.as_slice(), out),
+        Format::Text | Format::Csv | Format::Named => Ok(()),
     }
 }

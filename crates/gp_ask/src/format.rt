@@ -10,4 +10,7 @@ pub enum Format {
     /// As CSV under the names of columns. Questions that ask for rows, or for their difference, are answered, and any other question is
     /// refused.
     Named,
+    /// As SQL. AS OF and REENACT, plain or explained, are answered by the query that asks for their rows, and any other question is
+    /// refused.
+    Sql,
 }

@@ -37,17 +37,19 @@ ghost use Rattle.gp_whatif.specs.Replays.{IsCoherent, IsReplayable, stop_upto};
 ghost use Rattle.gp_ask.specs.Answerable.{question_is_valid};
 ghost use Rattle.gp_ask.specs.Printed.{answer_to, held_to, what_if_held};
 ghost use Rattle.gp_ask.specs.Computed.{computed_answer, what_if_answer};
-ghost use Rattle.gp_ask.specs.Asking.{table_spans};
+ghost use Rattle.gp_ask.specs.Asking.{Programs, table_spans};
 ghost use Rattle.gp_ask.specs.Changes.{spans_texts};
 ghost use Rattle.gp_ask.specs.Deltas.{delta};
 ghost use Rattle.gp_ask.specs.DeltaForms.{added_rows, removed_rows, signed_row};
 ghost use Rattle.gp_ask.specs.Explained.{ExplainsLines};
 ghost use Rattle.gp_ask.specs.Hypothetical.{remaking_refusal, replayed_dump};
 ghost use Rattle.gp_ask.specs.Isolated.{IsIsolated, LosesToFirst};
-ghost use Rattle.gp_ask.specs.Programs.{program_lines};
+ghost use Rattle.gp_ask.specs.Answers as answers;
+ghost use Rattle.gp_ask.specs.Programs.{program_lines, sql_lines};
 ghost use Rattle.gp_ask.specs.Questions.{AreQuestions, ReadQuestion};
 ghost use Rattle.gp_ask.specs.Replays.{dump_in};
 ghost use Rattle.gp_ask.specs.ShownWrites.{ShowsWrites};
+ghost use Rattle.gp_ask.specs.SqlAnswers.{AreStored, AsksLines};
 
 use gp_algebra::annotations_commute;
 use gp_base::Monomial as BaseMonomial;
@@ -59,6 +61,8 @@ use gp_machine::{
     unstopped_histories_answer_their_questions,
 };
 use gp_semiring::{Bool, Cost, Count, Level, Poly, PosBool, Semiring};
+use gp_sql::queries_give_the_rows_of_programs;
+use gp_typed::well_formed_dumps_are_typed;
 use gp_versions::a_version_has_one_row_of_an_identity;
 use gp_whatif::{
     changed_logs_are_coherent, changed_logs_are_replayable, logs_keep_their_sessions,
@@ -133,6 +137,16 @@ pub fn histories_answer_as_their_dumps()
     a_version_has_one_row_of_an_identity();
     commits_publish_the_spans::<BaseMonomial>();
     identities_begin_with_their_committers::<BaseMonomial>();
+    annotations_change_no_reply::<BaseMonomial, ()>()
+}
+
+/// So it does whichever programs answer explained questions, since they are made of the log alone.
+pub fn histories_answer_with_any_programs()
+    ensures { (programs : Programs) (lines : List Line) (question : y.Question)
+        → answers.answer_to programs (dump_of (after unannotated parameters start lines)) question
+        ≡ answers.held_to programs (after monomials parameters start lines) question }
+{
+    histories_answer_as_their_dumps();
     annotations_change_no_reply::<BaseMonomial, ()>()
 }
 
@@ -246,6 +260,25 @@ pub fn programs_explain_their_questions()
 {
     changed_logs_are_replayable();
     logs_keep_their_sessions()
+}
+
+/// Every question that a file asks of a well-formed dump in SQL is answered by a query that gives its rows, over any tables of row
+/// versions whose rows have cells of their columns' types: the merged program has types, since the log and the query were checked.
+pub fn queries_ask_their_questions()
+    ensures { (bytes file : List ℕ) (dump : Dump) (questions : List ReadQuestion)
+        → WellFormed bytes dump → AreQuestions file questions
+        → AsksLines sql_lines dump.entries questions }
+{
+    queries_give_the_rows_of_programs();
+    well_formed_dumps_are_typed()
+}
+
+/// The row versions of a well-formed dump are such tables.
+pub fn row_versions_are_stored()
+    ensures { (bytes : List ℕ) (dump : Dump) → WellFormed bytes dump
+        → AreStored dump.entries dump.tables }
+{
+    well_formed_dumps_are_typed()
 }
 
 /// Every well-formed dump, whether a history made it or not, answers a question about what would be with a change as the history

@@ -10,14 +10,14 @@
 //!
 //! In reading order: [`Answered`] is the answer to a question, [`answer`] answers a question that was read, [`answer_line`]
 //! a line, [`answer_by`] a plain AS OF or REENACT by what a [`Backend`] gives, of which [`Plain`] is the executor, and
-//! [`write_answer`] writes the answer. [`answer_line_in`] and [`write_answer_in`] do the same in a [`Format`]: as text, or as CSV. The
+//! [`write_answer`] writes the answer. [`answer_line_in`] and [`write_answer_in`] do the same in a [`Format`]: as text, as CSV or as SQL. The
 //! lines of a file share their [`KeptAnnotations`], so that the row versions of a dump are annotated once for all its questions. In
 //! `specs/`, `Asking` and `Answers` say what the answer is, whichever programs answer explained queries (`Printed` with those that are printed, `Computed` as it is
 //! computed), `Explained` what these programs say, `Hypothetical` what the history answers that would have been, `Formats`
-//! which answers are exported as CSV, `Titles` under which titles, `Questions` which answers the lines of a file get (`QuestionFiles` by its bytes), and `Texts` how they are written. `Values` has
+//! which answers are exported as CSV and asked in SQL, `Titles` under which titles, `SqlAnswers` what a query of SQL gives, `Questions` which answers the lines of a file get (`QuestionFiles` by its bytes), and `Texts` how they are written. `Values` has
 //! the semirings and the rules of VALUE IN, `Witnesses` the minimal witnesses of rows, and `Remaining` what remains for WITHOUT. Inside,
 //! `logs` answers LOG, `row_versions` VERSIONS, `asking` any question about a state, by `queries` AS OF and REENACT, by `provenance`
-//! PROVENANCE OF, by `values` VALUE IN, by `deletion` WITHOUT and by `programs` EXPLAIN, and `hypothetical` WHATIF. `keeping` has what
+//! PROVENANCE OF, by `values` VALUE IN, by `deletion` WITHOUT, by `programs` EXPLAIN and by `sql` what is asked in SQL, and `hypothetical` WHATIF. `keeping` has what
 //! one question leaves to the next.
 //!
 //! ```text
@@ -48,6 +48,7 @@ mod queries;
 mod row_versions;
 mod rules;
 mod seeing;
+mod sql;
 mod states;
 mod titles;
 mod transactions;
@@ -56,14 +57,15 @@ mod values;
 pub use answered::{Answered, Sheet, Valued};
 pub use answering::{answer, answer_by};
 pub use display::write_answer;
-pub use exporting::{answer_line, answer_line_in, write_answer_in};
+pub use exporting::{answer_line, answer_line_in, write_answer_in, write_heading_in};
 pub use format::Format;
 pub use gp_exec::{Backend, Plain};
 pub use keeping::KeptAnnotations;
 pub use laws::{
     changed_histories_answer_their_questions, changed_rows_are_those_written,
     commits_show_what_they_wrote, deltas_are_differences, dumps_answer_as_changed_histories,
-    histories_answer_as_their_dumps, histories_are_isolated, programs_explain_their_questions,
-    read_questions_are_valid, replays_answer_as_their_histories,
+    histories_answer_as_their_dumps, histories_answer_with_any_programs, histories_are_isolated,
+    programs_explain_their_questions, queries_ask_their_questions, read_questions_are_valid,
+    replays_answer_as_their_histories, row_versions_are_stored,
     unstopped_histories_answer_as_their_dumps,
 };

@@ -1,16 +1,14 @@
 -- Rows that were written under titles are read again as a sheet.
-use Rattle.std.proofs.Common.{◌≡◌, ℕ, zero, suc, pos, ◌<◌, ◌^◌, Bool, true, ◌&&◌, ◌||◌, List, [], ◌∷◌, length, map, get_or, Some, Result, Ok, refl, sym, ap, subst, ◌∙◌, arith}
+use Rattle.std.proofs.Common.{◌≡◌, ℕ, zero, suc, pos, ◌<◌, ◌^◌, Bool, true, ◌||◌, List, [], ◌∷◌, length, map, get_or, Ok, refl, sym, ap, subst, ◌∙◌}
 use Rattle.std.specs.Prelude.{codes}
-use Rattle.std.specs.List.{AllByRecursion, list_all, list_any}
+use Rattle.std.specs.List.{AllByRecursion, list_all}
 use Rattle.std.proofs.lemmas.Bool.{lt-ltb}
 use Rattle.gp_base.specs.declared.cell.Cell.{Cell}
 use Rattle.gp_base.specs.declared.cell.Cell.TheVariants as cell
 use Rattle.gp_base.specs.declared.table.Kind.TheVariants as kind
-use Rattle.gp_csv.specs.Answers.{csv_text, field_of, record_of, titled_records}
-use Rattle.gp_csv.specs.Faults.{Fault}
+use Rattle.gp_csv.specs.Answers.{csv_text, record_of, titled_records}
 use Rattle.gp_csv.specs.Titled.{column_names, is_cell_of}
-use Rattle.gp_csv.specs.Sheets.{columns_from, records_of, sheet_of, sheet_of_records}
-use Rattle.gp_csv.specs.declared.heading.Heading.{Heading}
+use Rattle.gp_csv.specs.Sheets.{columns_from, sheet_of, sheet_of_records}
 use Rattle.gp_csv.specs.declared.sheet.Sheet.{Sheet}
 use Rattle.gp_csv.proofs.ReadBack.{titled-back}
 use Rattle.gp_csv.specs.Titled.{AreReloadable, IsReadAgain, column_at, tells_type}

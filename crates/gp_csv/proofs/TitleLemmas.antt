@@ -1,7 +1,7 @@
 -- Titles that are names are read as headings without types.
-use Rattle.std.proofs.Common.{◌≡◌, ℕ, zero, suc, ◌+◌, ◌<◌, ◌≤◌, Bool, true, false, not, cond, eqb, ltb, leb, ◌&&◌, ◌||◌, List, [], ◌∷◌, ◌++◌, length, map, take, drop, append_assoc, append-nil, Option, Some, None, Result, Ok, option_and_then, refl, sym, ap, subst, ◌∙◌, arith, inl, inr}
+use Rattle.std.proofs.Common.{◌≡◌, ℕ, ◌+◌, ◌<◌, ◌≤◌, Bool, true, false, not, eqb, ltb, leb, ◌&&◌, List, [], ◌∷◌, ◌++◌, length, map, append_assoc, append-nil, Some, Ok, refl, sym, ap, ◌∙◌, arith}
 use Rattle.std.specs.Char.{to_ascii_lowercase}
-use Rattle.std.specs.List.{AllByRecursion, IsDistinct, list_all, list_any, prefix_len}
+use Rattle.std.specs.List.{AllByRecursion, IsDistinct, list_all}
 use Rattle.std.specs.Str.{IsUtf8, bytes_eq, is_utf8, str_to_ascii_lowercase}
 use Rattle.std.proofs.lemmas.Bool.{and_parts, le-ltb, or_from, or_parts}
 use Rattle.std.proofs.lemmas.Bool.Decides.{nat_tests}
@@ -10,8 +10,7 @@ use Rattle.std.proofs.lemmas.Str.{IsUtf8-nil, is_utf8-from_IsUtf8}
 use Rattle.gp_base.specs.Names.{is_lower_letter, is_name, is_name_byte, is_reserved}
 use Rattle.gp_base.specs.declared.name.TheConstants.{MAX_NAME_LENGTH}
 use Rattle.gp_grammar.specs.declared.limits.TheConstants.{MAX_COLUMNS}
-use Rattle.gp_csv.specs.Faults.{or_refuse}
-use Rattle.gp_csv.specs.Headings.{header_of, heading_named, heading_of, headings_from, is_taken, kind_of_suffix, name_len, with_heading}
+use Rattle.gp_csv.specs.Headings.{header_of, heading_of, headings_from, is_taken, name_len}
 use Rattle.gp_csv.specs.declared.heading.Heading.{Heading}
 use Rattle.gp_grammar.proofs.Utf8Lemmas.{ascii-cons}
 use Rattle.gp_csv.proofs.ReadAgain.{plain}
