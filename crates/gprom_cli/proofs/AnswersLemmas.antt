@@ -9,7 +9,12 @@ use Rattle.gp_syntax.specs.Lines.{script_lines}
 use Rattle.gp_grammar.specs.Syntax as y
 use Rattle.gp_base.specs.declared.table.Table.{Table}
 use Rattle.gp_ask.specs.declared.answered.Answered.{Answered}
+use Rattle.gp_dump.specs.Dumps.{Dump}
 use Rattle.gp_ask.specs.declared.format.Format.{Format}
+use Rattle.gp_ask.specs.declared.format.Format.TheVariants.{Text, Csv, Named, Sql}
+use Rattle.gp_ask.specs.Answers.{answer_to}
+use Rattle.gp_ask.specs.Computed.{computed_answer, computed_in}
+use Rattle.gp_ask.specs.Programs.{program_lines, programs_in}
 use Rattle.gp_ask.specs.QuestionFiles.{answers_text, has_refused, line_answer_in, line_answer_text}
 use Rattle.gp_ask.specs.Questions.{is_refused}
 use Rattle.gprom_cli.specs.declared.status.Status.TheVariants as exit
@@ -114,3 +119,11 @@ module _ (format : Format) (tables : List Table) (answers others : y.Question �
 
   pub same-refusals : has_refused format tables answers questions ≡ has_refused format tables others questions
   same-refusals = λ i. has_refused format tables (λ question. same question i) questions
+
+-- those that are computed for a format are those by its programs, if those as text are
+pub same-computed : (format : Format) (dump : Dump) → ((question : y.Question) → computed_answer dump question ≡ answer_to program_lines dump question)
+    → (question : y.Question) → computed_in format dump question ≡ answer_to (programs_in format) dump question
+same-computed Text dump same question = same question
+same-computed Csv dump same question = same question
+same-computed Named dump same question = same question
+same-computed Sql dump same question = refl

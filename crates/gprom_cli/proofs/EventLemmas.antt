@@ -9,14 +9,13 @@ use Rattle.gp_csv.specs.Faults.{Fault}
 use Rattle.gp_load.specs.Loading.{LoadsText, loaded_of}
 use Rattle.gp_log.specs.LogFacts.{tables_in}
 use Rattle.gp_ask.specs.Answers.{answer_to}
-use Rattle.gp_ask.specs.Asking.{Programs}
 use Rattle.gp_ask.specs.Questions.{refuses_some}
 use Rattle.gprom_cli.specs.declared.load.TheConstants.{MAX_SHEET_LENGTH}
 use Rattle.gprom_cli.specs.declared.status.Status.{Status}
 use Rattle.gprom_cli.specs.declared.status.Status.TheVariants as exit
 use Rattle.gprom_cli.specs.Args.{Command, Run, Ask, Generate, Load, Help, Version}
 use Rattle.gprom_cli.specs.Call as c
-use Rattle.gprom_cli.specs.Call.{IsWholeLines, ComesTo, HasRead, IsReadBy, answered_status, history_dump, read_of, rounds_line}
+use Rattle.gprom_cli.specs.Call.{IsWholeLines, ComesTo, HasRead, IsReadBy, Shown, answered_status, history_dump, read_of, rounds_line}
 use Rattle.gprom_cli.specs.Consequences.{AllDone, FollowsSteps, IsLast, reads, replaces}
 use Rattle.gprom_cli.specs.Steps.{script_dump}
 use Rattle.gprom_cli.proofs.OutcomeLemmas.{dump-read}
@@ -75,7 +74,7 @@ pub read-follows : (command : Option Command) (events : List Event) → HasRead 
 read-follows _ _ (c.nothing command) = no-steps command
 read-follows _ _ (c.files command before name most bytes is short) = read-steps command before name most bytes is
 
-pub end-follows : (programs : Programs) (command : Option Command) (events : List Event) (text : List ℕ) (status : Status) → ComesTo programs command events text status → FollowsSteps command events
+pub end-follows : (programs : Shown) (command : Option Command) (events : List Event) (text : List ℕ) (status : Status) → ComesTo programs command events text status → FollowsSteps command events
 end-follows programs _ _ _ _ c.usage = ([], refl)
 end-follows programs _ _ _ _ c.helped = ([], refl)
 end-follows programs _ _ _ _ c.versioned = ([], refl)
@@ -116,7 +115,7 @@ answered-cause : (refused : Bool) (command : Option Command) (events : List Even
 answered-cause true command events done = done
 answered-cause false command events done = done
 
-pub cause : (programs : Programs) (command : Option Command) (events : List Event) (text : List ℕ) (status : Status) → ComesTo programs command events text status → Cause status command events
+pub cause : (programs : Shown) (command : Option Command) (events : List Event) (text : List ℕ) (status : Status) → ComesTo programs command events text status → Cause status command events
 cause programs _ _ _ _ c.usage = (refl, tt)
 cause programs _ _ _ _ c.helped = tt
 cause programs _ _ _ _ c.versioned = tt
@@ -129,7 +128,7 @@ cause programs _ _ _ _ (c.replied script dump bytes lines run small) =
     answered-cause (has_refusal (replies_to lines)) (Some (Run script dump)) (read_of script MAX_SCRIPT_LENGTH bytes ∷ Replaced dump (history_dump lines) ∷ []) tt
 cause programs _ _ _ _ (c.damaged format dump questions bytes asked f line few short fault) = tt
 cause programs _ _ _ _ (c.answered format dump questions bytes asked contents lines few short formed are) =
-    answered-cause (refuses_some format (tables_in contents.entries) (answer_to programs contents) lines) (Some (Ask format dump questions)) (read_of dump MAX_DUMP_LENGTH bytes ∷ read_of questions MAX_SCRIPT_LENGTH asked ∷ []) tt
+    answered-cause (refuses_some format (tables_in contents.entries) (answer_to (programs format) contents) lines) (Some (Ask format dump questions)) (read_of dump MAX_DUMP_LENGTH bytes ∷ read_of questions MAX_SCRIPT_LENGTH asked ∷ []) tt
 cause programs _ _ _ _ (c.summarized rounds others are) = tt
 cause programs _ _ _ _ (c.faulty_sheet csv table script bytes number record_number short fault) = tt
 cause programs _ _ _ _ (c.lost_script csv table script bytes text rows short is) = (script, text, (read_of csv MAX_SHEET_LENGTH bytes ∷ [], refl))
@@ -164,7 +163,7 @@ long-run _ _ _ _ read (c.reads_dump format dump questions) long = tt
 long-run _ _ _ _ read (c.reads_questions format dump questions first short) long = tt
 long-run _ _ _ _ read (c.reads_sheet csv table script) long = tt
 
-pub run-follows : (programs : Programs) (command : Option Command) (events : List Event) (text : List ℕ) (status : Status) → ComesTo programs command events text status → RunFollows command events
+pub run-follows : (programs : Shown) (command : Option Command) (events : List Event) (text : List ℕ) (status : Status) → ComesTo programs command events text status → RunFollows command events
 run-follows programs _ _ _ _ c.usage = tt
 run-follows programs _ _ _ _ c.helped = tt
 run-follows programs _ _ _ _ c.versioned = tt
@@ -202,7 +201,7 @@ read-generates _ _ _ _ (c.reads_dump format dump questions) text status = tt
 read-generates _ _ _ _ (c.reads_questions format dump questions first short) text status = tt
 read-generates _ _ _ _ (c.reads_sheet csv table script) text status = tt
 
-pub generate-follows : (programs : Programs) (command : Option Command) (events : List Event) (text : List ℕ) (status : Status) → ComesTo programs command events text status → GenerateFollows command text status
+pub generate-follows : (programs : Shown) (command : Option Command) (events : List Event) (text : List ℕ) (status : Status) → ComesTo programs command events text status → GenerateFollows command text status
 generate-follows programs _ _ _ _ c.usage = tt
 generate-follows programs _ _ _ _ c.helped = tt
 generate-follows programs _ _ _ _ c.versioned = tt
@@ -248,7 +247,7 @@ long-load _ _ _ _ read (c.reads_dump format dump questions) long = tt
 long-load _ _ _ _ read (c.reads_questions format dump questions first short) long = tt
 long-load _ _ _ _ read (c.reads_sheet csv table script) long = λ name bytes made is short. absurd (long-clash read bytes MAX_SHEET_LENGTH (ap bytes_in is) long short)
 
-pub load-follows : (programs : Programs) (command : Option Command) (events : List Event) (text : List ℕ) (status : Status) → ComesTo programs command events text status → LoadFollows command events
+pub load-follows : (programs : Shown) (command : Option Command) (events : List Event) (text : List ℕ) (status : Status) → ComesTo programs command events text status → LoadFollows command events
 load-follows programs _ _ _ _ c.usage = tt
 load-follows programs _ _ _ _ c.helped = tt
 load-follows programs _ _ _ _ c.versioned = tt

@@ -7,6 +7,7 @@ pub mod SummaryLemmas
 pub mod WritesLemmas
 pub mod LinesLemmas
 pub mod AnswersLemmas
+pub mod HeadingLemmas
 pub mod EngineLemmas
 pub mod OutcomeLemmas
 pub mod StepsLemmas

@@ -8,14 +8,15 @@ use Rattle.gp_base.specs.Refusals.{refusal_text}
 use Rattle.gp_base.specs.Texts as cells
 use Rattle.gp_base.specs.declared.cell.Cell.{Cell}
 use Rattle.gp_base.specs.declared.refusal.Refusal.{Refusal}
+use Rattle.gp_base.specs.declared.refusal.Refusal.TheVariants.{E30}
 use Rattle.gp_base.specs.declared.table.Table.{Table}
 use Rattle.gp_csv.specs.Answers.{csv_text}
 use Rattle.gp_grammar.specs.Syntax as y
 use Rattle.gp_ask.specs.declared.answered.Answered.{Answered}
 use Rattle.gp_ask.specs.declared.answered.Answered.TheVariants.{Rows, Listed, Values, Log, Versions, Program, Transactions, Changes, Diff, Causes, Checked, Refused, Sheet}
 use Rattle.gp_ask.specs.declared.format.Format.{Format}
-use Rattle.gp_ask.specs.declared.format.Format.TheVariants.{Text, Csv, Named}
-use Rattle.gp_ask.specs.Formats.{exported_records, text_in}
+use Rattle.gp_ask.specs.declared.format.Format.TheVariants.{Text, Csv, Named, Sql}
+use Rattle.gp_ask.specs.Formats.{exported_records, sql_answer_text, sql_refusal, text_in}
 use Rattle.gp_ask.specs.QuestionFiles.{line_answer_in, line_answer_text}
 use Rattle.gp_ask.specs.Texts.{answer_text, checked_text, listed_line, listed_text, provenance_text, signed_text, value_text}
 use Rattle.gprom_cli.specs.declared.summary.Summary.{Summary}
@@ -108,12 +109,40 @@ csv-lines : (records : List (List (List ℕ))) → IsWholeLines (csv_text record
 csv-lines [] = inl refl
 csv-lines (fields ∷ records) = inr (then-lines _ (csv_text records) (behind _ _ (behind _ _ newline-ends)) (csv-lines records))
 
+-- ---- as SQL
+
+ended : (line : List ℕ) → EndsLine (line ++ newline)
+ended line = (line, refl)
+
+refusal-ends : (number : ℕ) (refusal : Refusal) → EndsLine (sql_refusal number refusal)
+refusal-ends number refusal = behind (codes "-- ") (numbered number (refused_text refusal)) (numbered-ends number (refused_text refusal) (refused-ends refusal))
+
+sql-ends : (number : ℕ) (answer : Answered) → EndsLine (sql_answer_text number answer)
+sql-ends number (Program lines) =
+    let texts = flat_map (λ (line : List ℕ). line ++ newline) lines in
+    let after : EndsLine (newline ++ (texts ++ [])) =
+    then-lines newline (texts ++ []) newline-ends (subst IsWholeLines (sym (append-nil texts)) (all-lines (λ (line : List ℕ). line ++ newline) ended lines)) in
+    behind (codes "-- ") (decimal number ++ (newline ++ (texts ++ []))) (behind (decimal number) (newline ++ (texts ++ [])) after)
+sql-ends number (Refused refusal) = refusal-ends number refusal
+sql-ends number (Rows rows) = refusal-ends number E30
+sql-ends number (Sheet sheet) = refusal-ends number E30
+sql-ends number (Listed rows) = refusal-ends number E30
+sql-ends number (Values rows) = refusal-ends number E30
+sql-ends number (Log texts) = refusal-ends number E30
+sql-ends number (Versions texts) = refusal-ends number E30
+sql-ends number (Transactions texts) = refusal-ends number E30
+sql-ends number (Changes texts) = refusal-ends number E30
+sql-ends number (Diff rows) = refusal-ends number E30
+sql-ends number (Causes texts) = refusal-ends number E30
+sql-ends number (Checked line) = refusal-ends number E30
+
 -- ---- each answer
 
 lines-in : (format : Format) (number : ℕ) (answer : Answered) → IsWholeLines (text_in format number answer)
 lines-in Text number answer = inr (text-ends number answer)
 lines-in Csv number answer = csv-lines (exported_records number answer)
 lines-in Named number answer = csv-lines (exported_records number answer)
+lines-in Sql number answer = inr (sql-ends number answer)
 
 pub answer-lines : (format : Format) (tables : List Table) (answers : y.Question → Answered) (line : ℕ × List ℕ) → IsWholeLines (line_answer_text format tables answers line)
 answer-lines format tables answers line = lines-in format line.0 (line_answer_in format tables answers line)

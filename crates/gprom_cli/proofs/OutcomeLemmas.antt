@@ -24,7 +24,10 @@ use Rattle.gp_csv.specs.Faults.{refuse}
 use Rattle.gp_load.specs.Loading.{LoadsText, loaded_of}
 use Rattle.gp_ask.specs.declared.answered.Answered.{Answered}
 use Rattle.gp_ask.specs.declared.format.Format.{Format}
-use Rattle.gp_ask.specs.Printed.{answer_to, held_to}
+use Rattle.gp_ask.specs.Printed.{held_to}
+use Rattle.gp_ask.specs.Answers.{answer_to}
+use Rattle.gp_ask.specs.Formats.{heading_in}
+use Rattle.gp_ask.specs.Programs.{programs_in}
 use Rattle.gp_ask.specs.QuestionFiles.{answers_text, has_refused, questions_as_read}
 use Rattle.gp_ask.specs.Questions.{ReadQuestion, answered}
 use Rattle.gp_ask.proofs.ReadAnswers.{are-questions, one-file, refusals-read, texts-read}
@@ -38,7 +41,7 @@ use Rattle.gprom_cli.specs.Summary.{IsSummary, committed_in, lost_in, questions_
 use Rattle.gprom_cli.specs.Summaries.{line_rows, summary_by, summary_of}
 use Rattle.gprom_cli.specs.Call as c
 use Rattle.gprom_cli.specs.Call.{RunsScript, WritesOutput, answered_status, asked_status, asked_text, history_dump, loaded_message, message, read_of, sheet_message}
-use Rattle.gprom_cli.specs.Steps.{Answers, Ends, file_refused, file_text, is_answered, script_dump}
+use Rattle.gprom_cli.specs.Steps.{Answers, Ends, file_answers, file_refused, file_text, is_answered, script_dump}
 
 -- ---- scripts
 
@@ -224,13 +227,17 @@ module _ (format : Format) (bytes asked : List ℕ) (contents : Dump) (sink sink
   abbrev tables : List Table
   tables = tables_in contents.entries
 
-  pub answered-read : WellFormed bytes contents → file_text format contents asked ≡ answers_text format tables (answer_to contents) asked
-      → file_refused format contents asked ≡ has_refused format tables (answer_to contents) asked
+  abbrev answers : y.Question → Answered
+  answers = answer_to (programs_in format) contents
+
+  pub answered-read : WellFormed bytes contents → file_answers format contents asked ≡ answers_text format tables answers asked
+      → file_refused format contents asked ≡ has_refused format tables answers asked
       → WritesOutput (file_text format contents asked) (answered_status (file_refused format contents asked)) sink sink' s → Answers format bytes asked sink sink' s
   answered-read formed texts refusals writes =
       let lines = questions_as_read asked in
-      let due : WritesOutput (asked_text format contents (answer_to contents) lines) (asked_status format contents (answer_to contents) lines) sink sink' s =
-      subst (λ (t : List ℕ). WritesOutput t (asked_status format contents (answer_to contents) lines) sink sink' s) (texts ∙ sym (texts-read format tables (answer_to contents) asked))
+      let due : WritesOutput (asked_text format contents answers lines) (asked_status format contents answers lines) sink sink' s =
+      subst (λ (t : List ℕ). WritesOutput t (asked_status format contents answers lines) sink sink' s)
+      (ap (λ (t : List ℕ). heading_in format contents ++ t) (texts ∙ sym (texts-read format tables answers asked)))
       (subst (λ (e : Status). WritesOutput (file_text format contents asked) e sink sink' s)
-      (ap answered_status (refusals ∙ sym (refusals-read format tables (answer_to contents) asked))) writes) in
+      (ap answered_status (refusals ∙ sym (refusals-read format tables answers asked))) writes) in
       is_answered contents lines formed (are-questions asked) due

@@ -16,14 +16,13 @@ use Rattle.gp_csv.specs.Faults.{Fault}
 use Rattle.gp_load.specs.Loading.{loaded_of}
 use Rattle.gp_ask.specs.declared.format.Format.{Format}
 use Rattle.gp_ask.specs.Answers.{answer_to, held_to}
-use Rattle.gp_ask.specs.Asking.{Programs}
 use Rattle.gp_ask.specs.Questions.{AreQuestions, ReadQuestion}
 use Rattle.gprom_cli.specs.declared.load.TheConstants.{MAX_SHEET_LENGTH}
 use Rattle.gprom_cli.specs.declared.status.Status.{Status}
 use Rattle.gprom_cli.specs.declared.status.Status.TheVariants as exit
 use Rattle.gprom_cli.specs.Args.{Command, Run, Ask, Generate, Load, Help, Version}
 use Rattle.gprom_cli.specs.Call as c
-use Rattle.gprom_cli.specs.Call.{Call, ComesTo, HasOutcome, HasRead, IsReadBy, RunsScript, WritesOutput, answered_status, asked_status, asked_text, history_dump, loaded_message, read_of, sheet_message}
+use Rattle.gprom_cli.specs.Call.{Call, ComesTo, HasOutcome, HasRead, IsReadBy, RunsScript, WritesOutput, Shown, answered_status, asked_status, asked_text, history_dump, loaded_message, read_of, sheet_message}
 use Rattle.gprom_cli.specs.OverFiles.{Becomes, LeavesOthers, LoadsFile, NoFault, OthersHaveSame, OverFiles}
 use Rattle.gprom_cli.specs.Consequences.{AllDone, Consequences, IsDetermined, IsReplacedAfter, LoadsSheet}
 use Rattle.gprom_cli.specs.Promises.{Promises}
@@ -105,7 +104,7 @@ read-shape : (command : Option Command) (events : List Event) → HasRead comman
 read-shape _ _ (c.nothing command) = no-shape command
 read-shape _ _ (c.files command before name most bytes is short) = whole-shape command before name most bytes is
 
-end-shape : (programs : Programs) (command : Option Command) (events : List Event) (text : List ℕ) (status : Status) → ComesTo programs command events text status → HasShape command events
+end-shape : (programs : Shown) (command : Option Command) (events : List Event) (text : List ℕ) (status : Status) → ComesTo programs command events text status → HasShape command events
 end-shape programs _ _ _ _ c.usage = refl
 end-shape programs _ _ _ _ c.helped = refl
 end-shape programs _ _ _ _ c.versioned = refl
@@ -200,7 +199,7 @@ after-sheet : (table script bytes : List ℕ) (result : Result (List ℕ × ℕ)
     → cond (nat_lt MAX_SHEET_LENGTH (length bytes)) [] (sheet_made script (loaded_of table bytes)) ≡ sheet_made script result
 after-sheet table script bytes result short is = test-false MAX_SHEET_LENGTH (length bytes) [] (sheet_made script (loaded_of table bytes)) short ∙ ap (sheet_made script) is
 
-end-full : (programs : Programs) (command : Option Command) (events : List Event) (text : List ℕ) (status : Status) → ComesTo programs command events text status → IsFull command events
+end-full : (programs : Shown) (command : Option Command) (events : List Event) (text : List ℕ) (status : Status) → ComesTo programs command events text status → IsFull command events
 end-full programs _ _ _ _ c.usage = tt
 end-full programs _ _ _ _ c.helped = tt
 end-full programs _ _ _ _ c.versioned = tt
@@ -393,7 +392,7 @@ module _ (old : Contents) where
 -- ---- every promise
 
 module _ (call : Call) (old new : Contents) (promises : Promises call) (follows : Consequences promises.shown call) (leads : Leads old call.events new) where
-  abbrev programs : Programs
+  abbrev programs : Shown
   programs = promises.shown
 
   shape-of : HasOutcome programs call → HasShape call.command call.events
@@ -465,18 +464,18 @@ module _ (call : Call) (old new : Contents) (promises : Promises call) (follows 
   held : (format : Format) (dump name script asked : List ℕ) (lines : List ReadLine) (questions : List ReadQuestion) → call.command ≡ Some (Ask format dump name) → NoFault call.events
       → RunsScript script lines → old dump ≡ Some (history_dump lines) → length (history_dump lines) ≤ MAX_DUMP_LENGTH → old name ≡ Some asked → length asked ≤ MAX_SCRIPT_LENGTH
       → AreQuestions asked questions
-      → WritesOutput (asked_text format (dump_of (last_state unannotated lines)) (held_to programs (last_state monomials lines)) questions) (asked_status format (dump_of (last_state unannotated lines)) (held_to programs (last_state monomials lines)) questions)
+      → WritesOutput (asked_text format (dump_of (last_state unannotated lines)) (held_to (programs format) (last_state monomials lines)) questions) (asked_status format (dump_of (last_state unannotated lines)) (held_to (programs format) (last_state monomials lines)) questions)
       call.sink call.sink_after call.status
   held format dump name script asked lines questions ask none runs has few also short are =
-      ⊎_elim (λ early. early-written (asked_text format (dump_of (last_state unannotated lines)) (held_to programs (last_state monomials lines)) questions) (asked_status format (dump_of (last_state unannotated lines)) (held_to programs (last_state monomials lines)) questions) early)
+      ⊎_elim (λ early. early-written (asked_text format (dump_of (last_state unannotated lines)) (held_to (programs format) (last_state monomials lines)) questions) (asked_status format (dump_of (last_state unannotated lines)) (held_to (programs format) (last_state monomials lines)) questions) early)
       (λ is. follows.held format dump name script asked lines questions ask is runs few short are)
       (asked-of format dump name (history_dump lines) asked ask none has few also short)
 
   hypothetical : (format : Format) (dump name bytes asked : List ℕ) (contents : Dump) (questions : List ReadQuestion) → call.command ≡ Some (Ask format dump name) → NoFault call.events
       → old dump ≡ Some bytes → length bytes ≤ MAX_DUMP_LENGTH → WellFormed bytes contents → old name ≡ Some asked → length asked ≤ MAX_SCRIPT_LENGTH → AreQuestions asked questions
-      → WritesOutput (asked_text format contents (answer_to programs contents) questions) (asked_status format contents (answer_to programs contents) questions) call.sink call.sink_after call.status
+      → WritesOutput (asked_text format contents (answer_to (programs format) contents) questions) (asked_status format contents (answer_to (programs format) contents) questions) call.sink call.sink_after call.status
   hypothetical format dump name bytes asked contents questions ask none has few formed also short are =
-      ⊎_elim (λ early. early-written (asked_text format contents (answer_to programs contents) questions) (asked_status format contents (answer_to programs contents) questions) early)
+      ⊎_elim (λ early. early-written (asked_text format contents (answer_to (programs format) contents) questions) (asked_status format contents (answer_to (programs format) contents) questions) early)
       (λ is. follows.answered format dump name bytes asked contents questions ask is few short formed are)
       (asked-of format dump name bytes asked ask none has few also short)
 

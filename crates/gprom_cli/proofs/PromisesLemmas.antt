@@ -41,8 +41,8 @@ use Rattle.gp_load.specs.Reloading.{LoadsAgain}
 use Rattle.gp_ask.specs.declared.format.Format.{Format}
 use Rattle.gp_ask.specs.Answers.{answer_to, held_to}
 use Rattle.gp_ask.specs.Asking.{Programs}
-use Rattle.gp_ask.specs.Printed as printed
-use Rattle.gp_ask.specs.Programs.{program_lines}
+use Rattle.gp_ask.specs.Programs.{program_lines, programs_in, sql_lines}
+use Rattle.gp_ask.specs.SqlAnswers.{AreStored, AsksLines}
 use Rattle.gp_ask.specs.declared.answered.Answered as reply
 use Rattle.gp_ask.specs.Explained.{ExplainsLines}
 use Rattle.gp_ask.specs.Hypothetical.{remaking_refusal, replayed_dump}
@@ -54,7 +54,7 @@ use Rattle.gprom_cli.specs.declared.status.Status.{Status}
 use Rattle.gprom_cli.specs.declared.status.Status.TheVariants as exit
 use Rattle.gprom_cli.specs.Args.{Command, Run, Ask, Generate, Load}
 use Rattle.gprom_cli.specs.Call as c
-use Rattle.gprom_cli.specs.Call.{IsWholeLines, Call, ComesTo, HasOutcome, RunsScript, WritesOutput, answered_status, asked_status, asked_text, history_dump, loaded_message, read_of, rounds_line, sheet_message, usage_text}
+use Rattle.gprom_cli.specs.Call.{IsWholeLines, Call, ComesTo, HasOutcome, RunsScript, WritesOutput, Shown, answered_status, asked_status, asked_text, history_dump, loaded_message, read_of, rounds_line, sheet_message, usage_text}
 use Rattle.gprom_cli.specs.Steps.{script_dump}
 use Rattle.gprom_cli.specs.Promises.{IsReadAsDump, Promises}
 use Rattle.gprom_cli.specs.Consequences.{AllDone, Consequences, FollowsSteps, HasFailed, IsClean, IsDetermined, IsLast, IsOrFails, IsReplacedAfter, LoadsSheet}
@@ -151,9 +151,12 @@ pub record DumpLaws : Type 0 where
   pub formed : (script : List ℕ) → length script ≤ MAX_SCRIPT_LENGTH → IsDump (dump_of (final_state unannotated script))
   pub unchanged : (script : List ℕ) → length script ≤ MAX_SCRIPT_LENGTH
       → (remaking_refusal (final_state unannotated script).entries ≡ None) × (replayed_dump (final_state unannotated script).entries ≡ dump_of (final_state unannotated script))
-  pub held : (lines : List Line) (question : y.Question) → printed.answer_to (dump_of (after unannotated parameters start lines)) question ≡ printed.held_to (after monomials parameters start lines) question
+  pub held : (programs : Programs) (lines : List Line) (question : y.Question)
+      → answer_to programs (dump_of (after unannotated parameters start lines)) question ≡ held_to programs (after monomials parameters start lines) question
   pub checked : (dump : Dump) → IsDump dump → difference dump ≡ None → IsOfHistory dump
   pub explained : (bytes file : List ℕ) (dump : Dump) (questions : List ReadQuestion) → WellFormed bytes dump → AreQuestions file questions → ExplainsLines program_lines dump.entries questions
+  pub asked : (bytes file : List ℕ) (dump : Dump) (questions : List ReadQuestion) → WellFormed bytes dump → AreQuestions file questions → AsksLines sql_lines dump.entries questions
+  pub stored : (bytes : List ℕ) (dump : Dump) → WellFormed bytes dump → AreStored dump.entries dump.tables
   pub reloaded : (number : ℕ) (titles : List (List ℕ)) (rows : List (List Cell)) → number < 2 ^ 63 → AreReloadable (codes "line" ∷ titles) rows
       → LoadsAgain number (codes "line" ∷ titles) rows (csv_text (titled_records number (codes "line" ∷ titles) rows))
   pub programs : (tables : List Table) (program other : PlainProgram) → HaveDifferentNames tables → is_spellable tables program ≡ true → is_spellable tables other ≡ true
@@ -167,9 +170,9 @@ pub record DumpLaws : Type 0 where
 by-lines : (P : State (Unit {0}) → Type 0) (script : List ℕ) (lines : List ReadLine) → IsScript script lines → P (final_state unannotated script) → P (last_state unannotated lines)
 by-lines P script lines are is = subst P (sym (same-plain script lines are)) is
 
-pub promised : DumpLaws → (call : Call) → HasOutcome program_lines call → Promises call
+pub promised : DumpLaws → (call : Call) → HasOutcome programs_in call → Promises call
 promised laws call has = record {
-  shown = program_lines;
+  shown = programs_in;
   outcome = has;
   scripts = λ script. scripts-once (script_lines script);
   questions = λ file. questions-once (script_lines file);
@@ -179,16 +182,18 @@ promised laws call has = record {
       (dumps.written-well-formed (dump_of (final_state unannotated script)) (laws.formed script short));
   unchanged = λ script lines short are.
       by-lines (λ (state : State (Unit {0})). (remaking_refusal state.entries ≡ None) × (replayed_dump state.entries ≡ dump_of state)) script lines are (laws.unchanged script short);
-  held = λ lines question.
-      ap (λ (state : State (Unit {0})). printed.answer_to (dump_of state) question) (state-taken unannotated lines start)
-      ∙ laws.held (taken lines) question
-      ∙ ap (λ (state : State Monomial). printed.held_to state question) (sym (state-taken monomials lines start));
+  held = λ format lines question.
+      ap (λ (state : State (Unit {0})). answer_to (programs_in format) (dump_of state) question) (state-taken unannotated lines start)
+      ∙ laws.held (programs_in format) (taken lines) question
+      ∙ ap (λ (state : State Monomial). held_to (programs_in format) state question) (sym (state-taken monomials lines start));
   explained = laws.explained;
+  asked = laws.asked;
+  stored = laws.stored;
   reloaded = laws.reloaded;
   programs = λ tables text program other different spells also. laws.programs tables program other different spells.spellable also.spellable (spells.is ∙ sym also.is);
   checked = λ bytes contents formed none.
       let history = laws.checked contents (dumps.whole-text bytes contents formed).rules none in
-      (history, λ question. ap (λ (own : Dump). printed.answer_to own question) history.is ∙ laws.held history.lines question);
+      (history, λ format question. ap (λ (own : Dump). answer_to (programs_in format) own question) history.is ∙ laws.held (programs_in format) history.lines question);
   isolated = λ lines. subst IsIsolated (sym (state-taken monomials lines start)) (laws.isolated (taken lines));
   lost = λ lines. subst LosesToFirst (sym (state-taken monomials lines start)) (laws.lost (taken lines));
   remade = λ bytes contents change entries formed made none. laws.remade contents (dumps.whole-text bytes contents formed).rules change entries made none;
@@ -197,7 +202,7 @@ promised laws call has = record {
 -- ---- what follows
 
 module _ (call : Call) (promises : Promises call) where
-  abbrev programs : Programs
+  abbrev programs : Shown
   programs = promises.shown
 
   steps-of : HasOutcome programs call → FollowsSteps call.command call.events
@@ -341,14 +346,14 @@ module _ (call : Call) (promises : Promises call) where
         (is : call.events ≡ read_of dump MAX_DUMP_LENGTH bytes ∷ read_of name MAX_SCRIPT_LENGTH asked ∷ []) (few : length bytes ≤ MAX_DUMP_LENGTH) (short : length asked ≤ MAX_SCRIPT_LENGTH)
         (formed : WellFormed bytes contents) (are : AreQuestions asked questions) where
       -- the answers to questions, from a dump that is well formed
-      answers-from : WritesOutput (asked_text format contents (answer_to programs contents) questions) (asked_status format contents (answer_to programs contents) questions) call.sink call.sink_after call.status
+      answers-from : WritesOutput (asked_text format contents (answer_to (programs format) contents) questions) (asked_status format contents (answer_to (programs format) contents) questions) call.sink call.sink_after call.status
       answers-from =
           determined-as (Some (Ask format dump name)) (read_of dump MAX_DUMP_LENGTH bytes ∷ read_of name MAX_SCRIPT_LENGTH asked ∷ []) tt ask is
-          (asked_text format contents (answer_to programs contents) questions) (asked_status format contents (answer_to programs contents) questions)
+          (asked_text format contents (answer_to (programs format) contents) questions) (asked_status format contents (answer_to (programs format) contents) questions)
           (c.answered format dump name bytes asked contents questions few short formed are)
 
       -- by other answers that are the same
-      answers-by : (answers : y.Question → reply.Answered) → ((question : y.Question) → answer_to programs contents question ≡ answers question)
+      answers-by : (answers : y.Question → reply.Answered) → ((question : y.Question) → answer_to (programs format) contents question ≡ answers question)
           → WritesOutput (asked_text format contents answers questions) (asked_status format contents answers questions) call.sink call.sink_after call.status
       answers-by answers same =
           subst (λ (given : y.Question → reply.Answered). WritesOutput (asked_text format contents given questions) (asked_status format contents given questions) call.sink call.sink_after call.status)
@@ -357,23 +362,23 @@ module _ (call : Call) (promises : Promises call) where
     recorded : (format : Format) (dump name bytes asked : List ℕ) (contents : Dump) (lines : List Line) (questions : List ReadQuestion) → call.command ≡ Some (Ask format dump name)
         → call.events ≡ read_of dump MAX_DUMP_LENGTH bytes ∷ read_of name MAX_SCRIPT_LENGTH asked ∷ [] → length bytes ≤ MAX_DUMP_LENGTH → length asked ≤ MAX_SCRIPT_LENGTH
         → WellFormed bytes contents → contents ≡ dump_of (after unannotated parameters start lines) → AreQuestions asked questions
-        → WritesOutput (asked_text format contents (held_to programs (after monomials parameters start lines)) questions)
-        (asked_status format contents (held_to programs (after monomials parameters start lines)) questions) call.sink call.sink_after call.status
+        → WritesOutput (asked_text format contents (held_to (programs format) (after monomials parameters start lines)) questions)
+        (asked_status format contents (held_to (programs format) (after monomials parameters start lines)) questions) call.sink call.sink_after call.status
     recorded format dump name bytes asked contents lines questions ask is few short formed made are =
-        answers-by format dump name bytes asked contents questions ask is few short formed are (held_to programs (after monomials parameters start lines))
+        answers-by format dump name bytes asked contents questions ask is few short formed are (held_to (programs format) (after monomials parameters start lines))
         (λ question.
-        ap (λ (own : Dump). answer_to programs own question) (made ∙ ap dump_of (sym (state-again unannotated lines start)))
-        ∙ promises.held (map read_again lines) question
-        ∙ ap (λ (state : State Monomial). held_to programs state question) (state-again monomials lines start))
+        ap (λ (own : Dump). answer_to (programs format) own question) (made ∙ ap dump_of (sym (state-again unannotated lines start)))
+        ∙ promises.held format (map read_again lines) question
+        ∙ ap (λ (state : State Monomial). held_to (programs format) state question) (state-again monomials lines start))
 
     held : (format : Format) (dump name script asked : List ℕ) (lines : List ReadLine) (questions : List ReadQuestion) → call.command ≡ Some (Ask format dump name)
         → call.events ≡ read_of dump MAX_DUMP_LENGTH (history_dump lines) ∷ read_of name MAX_SCRIPT_LENGTH asked ∷ [] → RunsScript script lines
         → length (history_dump lines) ≤ MAX_DUMP_LENGTH → length asked ≤ MAX_SCRIPT_LENGTH → AreQuestions asked questions
-        → WritesOutput (asked_text format (dump_of (last_state unannotated lines)) (held_to programs (last_state monomials lines)) questions) (asked_status format (dump_of (last_state unannotated lines)) (held_to programs (last_state monomials lines)) questions)
+        → WritesOutput (asked_text format (dump_of (last_state unannotated lines)) (held_to (programs format) (last_state monomials lines)) questions) (asked_status format (dump_of (last_state unannotated lines)) (held_to (programs format) (last_state monomials lines)) questions)
         call.sink call.sink_after call.status
     held format dump name script asked lines questions ask is runs few short are =
         answers-by format dump name (history_dump lines) asked (dump_of (last_state unannotated lines)) questions ask is few short (promises.formed script lines runs.short runs.are) are
-        (held_to programs (last_state monomials lines)) (promises.held lines)
+        (held_to (programs format) (last_state monomials lines)) (promises.held format lines)
 
     all-follow : Consequences programs call
     all-follow = record {

@@ -5,8 +5,8 @@ use Rattle.gp_io.specs.Sink.{SinkState}
 use Rattle.gp_script.specs.declared.script.TheConstants.{MAX_SCRIPT_LENGTH}
 use Rattle.gp_dump.specs.declared.dump.TheConstants.{MAX_DUMP_LENGTH}
 use Rattle.gp_ask.specs.declared.format.Format.{Format}
-use Rattle.gp_ask.specs.Printed.{answer_to}
-use Rattle.gp_ask.specs.Programs.{program_lines}
+use Rattle.gp_ask.specs.Answers.{answer_to}
+use Rattle.gp_ask.specs.Programs.{programs_in}
 use Rattle.gprom_cli.specs.declared.status.Status.{Status}
 use Rattle.gprom_cli.specs.declared.status.Status.TheVariants as exit
 use Rattle.gprom_cli.specs.Args.{Command, Ask}
@@ -73,7 +73,7 @@ ask-answered format dump questions bytes asked start before after sink sink' s t
 ask-answered format dump questions bytes asked start before after sink sink' s there grown few short (is_answered contents lines formed are writes) = record {
   events = read_of dump MAX_DUMP_LENGTH bytes ∷ read_of questions MAX_SCRIPT_LENGTH asked ∷ [];
   grown = grows-twice start before after (read_of dump MAX_DUMP_LENGTH bytes) (read_of questions MAX_SCRIPT_LENGTH asked) there grown;
-  outcome = c.comes_to (asked_text format contents (answer_to contents) lines) (asked_status format contents (answer_to contents) lines)
+  outcome = c.comes_to (asked_text format contents (answer_to (programs_in format) contents) lines) (asked_status format contents (answer_to (programs_in format) contents) lines)
       (c.answered format dump questions bytes asked contents lines few short formed are) writes;
 }
 ask-answered format dump questions bytes asked start before after sink sink' s there grown few short (no_answer quiet memory) = record {
@@ -83,7 +83,7 @@ ask-answered format dump questions bytes asked start before after sink sink' s t
 }
 
 -- nothing was read or replaced
-pub quiet-end : (command : Option Command) (events : List Event) (sink sink' : SinkState) (s : Status) (text : List ℕ) (expected : Status) → c.ComesTo program_lines command [] text expected
+pub quiet-end : (command : Option Command) (events : List Event) (sink sink' : SinkState) (s : Status) (text : List ℕ) (expected : Status) → c.ComesTo programs_in command [] text expected
     → WritesOutput text expected sink sink' s → Ends command events events sink sink' s
 quiet-end command events sink sink' s text expected comes writes = record { events = []; grown = sym (append-nil events); outcome = c.comes_to text expected comes writes }
 

@@ -15,8 +15,8 @@ use Rattle.gp_csv.specs.Faults.{Fault}
 use Rattle.gp_load.specs.Loading.{loaded_of}
 use Rattle.gp_ask.specs.declared.format.Format.{Format}
 use Rattle.gp_ask.specs.Answers.{answer_to}
-use Rattle.gp_ask.specs.Asking.{Programs}
 use Rattle.gp_log.specs.LogFacts.{tables_in}
+use Rattle.gp_ask.specs.Formats.{heading_in}
 use Rattle.gp_ask.specs.QuestionFiles.{answers_text, has_refused}
 use Rattle.gp_ask.proofs.ReadAnswers.{one-file, refusals-read, texts-read}
 use Rattle.gprom_cli.specs.declared.load.TheConstants.{MAX_SHEET_LENGTH}
@@ -24,7 +24,7 @@ use Rattle.gprom_cli.specs.declared.status.Status.{Status}
 use Rattle.gprom_cli.specs.declared.status.Status.TheVariants as exit
 use Rattle.gprom_cli.specs.Args.{Command, Run, Ask, Generate, Load, Help, Version}
 use Rattle.gprom_cli.specs.Call as c
-use Rattle.gprom_cli.specs.Call.{Call, ComesTo, HasOutcome, IsReadBy, WritesOutput, answered_status, asked_status, asked_text, damage_message, help_text, history_dump, loaded_message, message, read_of, sheet_message, usage_text, version_text}
+use Rattle.gprom_cli.specs.Call.{Call, ComesTo, HasOutcome, IsReadBy, WritesOutput, Shown, answered_status, asked_status, asked_text, damage_message, help_text, history_dump, loaded_message, message, read_of, sheet_message, usage_text, version_text}
 use Rattle.gprom_cli.specs.Consequences.{IsDetermined}
 use Rattle.gprom_cli.proofs.OutcomeLemmas.{status-read, text-read}
 use Rattle.gprom_cli.proofs.WritesLemmas.{nothing-written}
@@ -62,16 +62,16 @@ abbrev sheet_told : List Event → Result (List ℕ × ℕ) Fault → Told
 sheet_told events (Ok made) = replace_told events nothing_told (loaded_message made.1, exit.Done)
 sheet_told events (Err fault) = (sheet_message fault.c fault.number, exit.SheetRefused)
 
-abbrev verdict_told : Programs → Format → List ℕ → Verdict → Told
+abbrev verdict_told : Shown → Format → List ℕ → Verdict → Told
 verdict_told programs format asked (Holds dump) =
-    (answers_text format (tables_in dump.entries) (answer_to programs dump) asked, answered_status (has_refused format (tables_in dump.entries) (answer_to programs dump) asked))
+    (heading_in format dump ++ answers_text format (tables_in dump.entries) (answer_to (programs format) dump) asked, answered_status (has_refused format (tables_in dump.entries) (answer_to (programs format) dump) asked))
 verdict_told programs format asked (Fails f line) = (damage_message f line, exit.Damaged)
 
-abbrev ask_told : Programs → Format → List Event → List ℕ → Told
+abbrev ask_told : Shown → Format → List Event → List ℕ → Told
 ask_told programs format [] bytes = nothing_told
 ask_told programs format (event ∷ events) bytes = read_told MAX_SCRIPT_LENGTH event (λ asked. verdict_told programs format asked (verdict_on bytes))
 
-abbrev file_told : Programs → Command → Event → List Event → Told
+abbrev file_told : Shown → Command → Event → List Event → Told
 file_told programs (Run script dump) event events = read_told MAX_SCRIPT_LENGTH event (run_told dump events)
 file_told programs (Ask format dump questions) event events = read_told MAX_DUMP_LENGTH event (ask_told programs format events)
 file_told programs (Generate rounds) event events = nothing_told
@@ -79,7 +79,7 @@ file_told programs (Load csv table script) event events = read_told MAX_SHEET_LE
 file_told programs Help event events = nothing_told
 file_told programs Version event events = nothing_told
 
-abbrev pub told : Programs → Option Command → List Event → Told
+abbrev pub told : Shown → Option Command → List Event → Told
 told programs None events = (usage_text, exit.Usage)
 told programs (Some Help) events = (help_text, exit.Done)
 told programs (Some Version) events = (version_text, exit.Done)
@@ -112,21 +112,21 @@ fails (Fails g other) f line is =
     let same : (g, other) ≡ (f, line) = cc in
     ap (λ (x : ℕ × ℕ). Fails x.0 x.1) same
 
-absent-told : (programs : Programs) (command : Command) (before : List Event) (name : List ℕ) (most : ℕ) → IsReadBy command before name most
+absent-told : (programs : Shown) (command : Command) (before : List Event) (name : List ℕ) (most : ℕ) → IsReadBy command before name most
     → told programs (Some command) (before ++ Missing name ∷ []) ≡ (message (codes "absent") name, exit.Absent)
 absent-told programs _ _ _ _ (c.reads_script script dump) = refl
 absent-told programs _ _ _ _ (c.reads_dump format dump questions) = refl
 absent-told programs _ _ _ _ (c.reads_questions format dump questions bytes short) = read-short dump MAX_DUMP_LENGTH bytes (ask_told programs format (Missing questions ∷ [])) short
 absent-told programs _ _ _ _ (c.reads_sheet csv table script) = refl
 
-unreadable-told : (programs : Programs) (command : Command) (before : List Event) (name : List ℕ) (most : ℕ) → IsReadBy command before name most
+unreadable-told : (programs : Shown) (command : Command) (before : List Event) (name : List ℕ) (most : ℕ) → IsReadBy command before name most
     → told programs (Some command) (before ++ Unreadable name ∷ []) ≡ (message (codes "cannot read") name, exit.Unreadable)
 unreadable-told programs _ _ _ _ (c.reads_script script dump) = refl
 unreadable-told programs _ _ _ _ (c.reads_dump format dump questions) = refl
 unreadable-told programs _ _ _ _ (c.reads_questions format dump questions bytes short) = read-short dump MAX_DUMP_LENGTH bytes (ask_told programs format (Unreadable questions ∷ [])) short
 unreadable-told programs _ _ _ _ (c.reads_sheet csv table script) = refl
 
-long-told : (programs : Programs) (command : Command) (before : List Event) (name : List ℕ) (most : ℕ) (bytes : List ℕ) → IsReadBy command before name most → most < length bytes
+long-told : (programs : Shown) (command : Command) (before : List Event) (name : List ℕ) (most : ℕ) (bytes : List ℕ) → IsReadBy command before name most → most < length bytes
     → told programs (Some command) (before ++ read_of name most bytes ∷ []) ≡ (message (codes "too long") name, exit.TooLong)
 long-told programs _ _ _ _ bytes (c.reads_script script dump) long = read-long script MAX_SCRIPT_LENGTH bytes (run_told dump []) long
 long-told programs _ _ _ _ bytes (c.reads_dump format dump questions) long = read-long dump MAX_DUMP_LENGTH bytes (ask_told programs format []) long
@@ -142,7 +142,7 @@ both-same : (text other : List ℕ) (status also : Status) → text ≡ other �
 both-same text other status also t s = λ i. (t i, s i)
 
 module _ (law : ReadsWellFormed) where
-  pub told-is : (programs : Programs) (command : Option Command) (events : List Event) (text : List ℕ) (status : Status) → ComesTo programs command events text status → IsDetermined command → told programs command events ≡ (text, status)
+  pub told-is : (programs : Shown) (command : Option Command) (events : List Event) (text : List ℕ) (status : Status) → ComesTo programs command events text status → IsDetermined command → told programs command events ≡ (text, status)
   told-is programs _ _ _ _ c.usage may = refl
   told-is programs _ _ _ _ c.helped may = refl
   told-is programs _ _ _ _ c.versioned may = refl
@@ -166,10 +166,11 @@ module _ (law : ReadsWellFormed) where
       read-short dump MAX_DUMP_LENGTH bytes (ask_told programs format (read_of questions MAX_SCRIPT_LENGTH asked ∷ [])) few
       ∙ read-short questions MAX_SCRIPT_LENGTH asked (λ read. verdict_told programs format read (verdict_on bytes)) short
       ∙ ap (verdict_told programs format asked) (law bytes contents formed)
-      ∙ both-same (answers_text format (tables_in contents.entries) (answer_to programs contents) asked) (asked_text format contents (answer_to programs contents) lines)
-      (answered_status (has_refused format (tables_in contents.entries) (answer_to programs contents) asked)) (asked_status format contents (answer_to programs contents) lines)
-      (sym (ap (asked_text format contents (answer_to programs contents)) one ∙ texts-read format (tables_in contents.entries) (answer_to programs contents) asked))
-      (sym (ap (asked_status format contents (answer_to programs contents)) one ∙ ap answered_status (refusals-read format (tables_in contents.entries) (answer_to programs contents) asked)))
+      ∙ both-same (heading_in format contents ++ answers_text format (tables_in contents.entries) (answer_to (programs format) contents) asked) (asked_text format contents (answer_to (programs format) contents) lines)
+      (answered_status (has_refused format (tables_in contents.entries) (answer_to (programs format) contents) asked)) (asked_status format contents (answer_to (programs format) contents) lines)
+      (sym (ap (asked_text format contents (answer_to (programs format) contents)) one
+      ∙ ap (λ (t : List ℕ). heading_in format contents ++ t) (texts-read format (tables_in contents.entries) (answer_to (programs format) contents) asked)))
+      (sym (ap (asked_status format contents (answer_to (programs format) contents)) one ∙ ap answered_status (refusals-read format (tables_in contents.entries) (answer_to (programs format) contents) asked)))
   told-is programs _ _ _ _ (c.summarized rounds others are) may = absurd may
   told-is programs _ _ _ _ (c.faulty_sheet csv table script bytes number record_number short fault) may =
       read-short csv MAX_SHEET_LENGTH bytes (λ read. sheet_told [] (loaded_of table read)) short ∙ ap (sheet_told []) fault
@@ -183,7 +184,7 @@ module _ (law : ReadsWellFormed) where
 abbrev pub WritesTold : Call → Told → Type 0
 WritesTold call all = WritesOutput all.0 all.1 call.sink call.sink_after call.status
 
-pub writes-told : ReadsWellFormed → (programs : Programs) (call : Call) → IsDetermined call.command → HasOutcome programs call → WritesTold call (told programs call.command call.events)
+pub writes-told : ReadsWellFormed → (programs : Shown) (call : Call) → IsDetermined call.command → HasOutcome programs call → WritesTold call (told programs call.command call.events)
 writes-told law programs call may (c.comes_to text status comes writes) = subst (WritesTold call) (sym (told-is law programs call.command call.events text status comes may)) writes
 writes-told law programs call may (c.out_of_memory reads quiet memory) =
     let all = told programs call.command call.events in

@@ -8,15 +8,15 @@ use Rattle.std.specs.Str.{bytes_eq, str_to_ascii_lowercase}
 use Rattle.std.specs.Str.Parse.{digits_value}
 use Rattle.gp_base.specs.Names.{is_name}
 use Rattle.gp_ask.specs.declared.format.Format.{Format}
-use Rattle.gp_ask.specs.declared.format.Format.TheVariants.{Text, Csv, Named}
+use Rattle.gp_ask.specs.declared.format.Format.TheVariants.{Text, Csv, Named, Sql}
 use Rattle.gp_grammar.specs.CommandGrammar.{is_number_without_zero}
 use Rattle.gprom_cli.specs.declared.generated.TheConstants.{MAX_ROUNDS}
 
 pub data Command : Type 0 where
   -- `run SCRIPT DUMP`: the names of the script, which is read, and of the dump, which is replaced
   Run : List ℕ → List ℕ → Command
-  -- `ask DUMP QUESTIONS`, which answers as text, and `export DUMP QUESTIONS`, which answers as CSV, or with `names` behind them as CSV with the names of
-  -- columns: the names of the dump and of the questions, which are read
+  -- `ask DUMP QUESTIONS`, which answers as text, `export DUMP QUESTIONS`, which answers as CSV, or with `names` behind them as CSV with the names of columns, and
+  -- `sql DUMP QUESTIONS`, which asks in SQL: the names of the dump and of the questions, which are read
   Ask : Format → List ℕ → List ℕ → Command
   -- `gen N`: the number of rounds
   Generate : ℕ → Command
@@ -56,7 +56,11 @@ command_of_number word number = if bytes_eq word (codes "gen") then option_map G
 
 -- how a word asks for answers, if it does
 abbrev pub format_of : List ℕ → Option Format
-format_of word = if bytes_eq word (codes "ask") then Some Text else if bytes_eq word (codes "export") then Some Csv else None
+format_of word =
+    if bytes_eq word (codes "ask") then Some Text
+    else if bytes_eq word (codes "export") then Some Csv
+    else if bytes_eq word (codes "sql") then Some Sql
+    else None
 
 -- the command of a word, if it is one, and two names, of which that of questions may be the standard input
 abbrev pub command_of_names : List ℕ → List ℕ → List ℕ → Option Command

@@ -19,6 +19,7 @@ use Rattle.gp_ask.specs.declared.answered.Answered.{Answered}
 use Rattle.gp_ask.specs.declared.format.Format.{Format}
 use Rattle.gp_ask.specs.Answers.{answer_to}
 use Rattle.gp_ask.specs.Asking.{Programs}
+use Rattle.gp_ask.specs.Formats.{heading_in}
 use Rattle.gp_ask.specs.Questions.{AreQuestions, ReadQuestion, answer_texts, refuses_some}
 use Rattle.gprom_cli.specs.declared.about.TheConstants.{HELP, VERSION}
 use Rattle.gprom_cli.specs.declared.load.TheConstants.{MAX_SHEET_LENGTH}
@@ -80,7 +81,7 @@ rounds_line rounds = concat (codes "gen " ∷ decimal rounds ∷ newline ∷ [])
 
 -- the usage line
 abbrev pub usage_text : List ℕ
-usage_text = concat (codes "usage: gprom run SCRIPT DUMP, gprom ask DUMP QUESTIONS, gprom gen N, gprom load CSV TABLE SCRIPT, gprom export DUMP QUESTIONS [names], gprom help" ∷ newline ∷ [])
+usage_text = concat (codes "usage: gprom run SCRIPT DUMP, gprom ask DUMP QUESTIONS, gprom gen N, gprom load CSV TABLE SCRIPT, gprom export DUMP QUESTIONS [names], gprom sql DUMP QUESTIONS, gprom help" ∷ newline ∷ [])
 
 -- the page of `help`, and what `version` writes
 abbrev pub help_text : List ℕ
@@ -100,10 +101,14 @@ answered_status refused = if refused then exit.Refused else exit.Done
 abbrev pub history_dump : List ReadLine → List ℕ
 history_dump lines = written_text (dump_of (last_state unannotated lines))
 
+-- the programs that answer explained queries in each format
+abbrev pub Shown : Type 0
+Shown = Format → Programs
+
 -- what is written where the questions to a dump have these answers, and the status
 module _ (format : Format) (dump : Dump) (answers : y.Question → Answered) (lines : List ReadQuestion) where
   abbrev pub asked_text : List ℕ
-  asked_text = answer_texts format (tables_in dump.entries) answers lines
+  asked_text = heading_in format dump ++ answer_texts format (tables_in dump.entries) answers lines
 
   abbrev pub asked_status : Status
   asked_status = answered_status (refuses_some format (tables_in dump.entries) answers lines)
@@ -114,7 +119,7 @@ module _ (format : Format) (dump : Dump) (answers : y.Question → Answered) (li
 abbrev pub read_of : List ℕ → ℕ → List ℕ → Event
 read_of name most bytes = Read name (most + 1) bytes
 
--- A file that is read by a command, after these events, and how long it may be. `ask` and `export` read the questions after the dump.
+-- A file that is read by a command, after these events, and how long it may be. `ask`, `export` and `sql` read the questions after the dump.
 pub data IsReadBy : Command → List Event → List ℕ → ℕ → Type 0 where
   reads_script : (script dump : List ℕ) → IsReadBy (Run script dump) [] script MAX_SCRIPT_LENGTH
   reads_dump : (format : Format) (dump questions : List ℕ) → IsReadBy (Ask format dump questions) [] dump MAX_DUMP_LENGTH
@@ -127,7 +132,7 @@ pub record RunsScript (bytes : List ℕ) (lines : List ReadLine) : Type 0 where
   pub short : length bytes ≤ MAX_SCRIPT_LENGTH
   pub are : IsScript bytes lines
 
-module _ (programs : Programs) where
+module _ (programs : Shown) where
   -- What a call comes to that has done this, unless memory runs out: the text that it writes, and its status. The first step that fails decides.
   pub data ComesTo : Option Command → List Event → List ℕ → Status → Type 0 where
     -- the arguments are invalid
@@ -150,13 +155,13 @@ module _ (programs : Programs) where
     replied : (script dump bytes : List ℕ) (lines : List ReadLine) → RunsScript bytes lines → length (history_dump lines) ≤ MAX_DUMP_LENGTH
         → ComesTo (Some (Run script dump)) (read_of script MAX_SCRIPT_LENGTH bytes ∷ Replaced dump (history_dump lines) ∷ [])
         (replies_text (replies_to lines)) (answered_status (has_refusal (replies_to lines)))
-    -- `ask` and `export`: the dump has a fault, or the questions are answered
+    -- `ask`, `export` and `sql`: the dump has a fault, or the questions are answered
     damaged : (format : Format) (dump questions bytes asked : List ℕ) (f line : ℕ) → length bytes ≤ MAX_DUMP_LENGTH → length asked ≤ MAX_SCRIPT_LENGTH → FirstFault bytes f line
         → ComesTo (Some (Ask format dump questions)) (read_of dump MAX_DUMP_LENGTH bytes ∷ read_of questions MAX_SCRIPT_LENGTH asked ∷ []) (damage_message f line) exit.Damaged
     answered : (format : Format) (dump questions bytes asked : List ℕ) (contents : Dump) (lines : List ReadQuestion) → length bytes ≤ MAX_DUMP_LENGTH → length asked ≤ MAX_SCRIPT_LENGTH
         → WellFormed bytes contents → AreQuestions asked lines
         → ComesTo (Some (Ask format dump questions)) (read_of dump MAX_DUMP_LENGTH bytes ∷ read_of questions MAX_SCRIPT_LENGTH asked ∷ [])
-        (asked_text format contents (answer_to programs contents) lines) (asked_status format contents (answer_to programs contents) lines)
+        (asked_text format contents (answer_to (programs format) contents) lines) (asked_status format contents (answer_to (programs format) contents) lines)
     -- `gen`: a summary, in lines. What it says is the contract of `generate`.
     summarized : (rounds : ℕ) (others : List ℕ) → IsWholeLines others → ComesTo (Some (Generate rounds)) [] (rounds_line rounds ++ others) exit.Done
     -- `load`: the sheet has a fault; or its script is not replaced, or is, and loads its rows
@@ -173,7 +178,7 @@ pub data HasRead : Option Command → List Event → Type 0 where
   files : (command : Command) (before : List Event) (name : List ℕ) (most : ℕ) (bytes : List ℕ) → IsReadBy command before name most → length bytes ≤ most
       → HasRead (Some command) (before ++ read_of name most bytes ∷ [])
 
-module _ (programs : Programs) where
+module _ (programs : Shown) where
   -- The arguments, what the shelf has done and the programs determine what the call comes to, but for the summary of `gen`, and that what is written. Where memory
   -- ran out before, nothing is written and nothing replaced.
   pub data HasOutcome (call : Call) : Type 0 where

@@ -15,13 +15,12 @@ use Rattle.gp_csv.specs.Faults.{Fault}
 use Rattle.gp_load.specs.Loading.{LoadsText, loaded_of}
 use Rattle.gp_ask.specs.declared.format.Format.{Format}
 use Rattle.gp_ask.specs.Answers.{answer_to, held_to}
-use Rattle.gp_ask.specs.Asking.{Programs}
 use Rattle.gp_ask.specs.Questions.{AreQuestions, ReadQuestion}
 use Rattle.gprom_cli.specs.declared.load.TheConstants.{MAX_SHEET_LENGTH}
 use Rattle.gprom_cli.specs.declared.status.Status.{Status}
 use Rattle.gprom_cli.specs.declared.status.Status.TheVariants as exit
 use Rattle.gprom_cli.specs.Args.{Command, Run, Ask, Generate, Load, Help, Version}
-use Rattle.gprom_cli.specs.Call.{IsWholeLines, Call, ComesTo, RunsScript, WritesOutput, answered_status, asked_status, asked_text, history_dump, loaded_message, read_of, rounds_line, sheet_message}
+use Rattle.gprom_cli.specs.Call.{IsWholeLines, Call, ComesTo, RunsScript, WritesOutput, Shown, answered_status, asked_status, asked_text, history_dump, loaded_message, read_of, rounds_line, sheet_message}
 
 -- ---- what the shelf has done
 
@@ -99,7 +98,7 @@ LoadsSheet csv table script bytes call (Ok made) = WritesOutput (loaded_message 
 LoadsSheet csv table script bytes call (Err fault) = WritesOutput (sheet_message fault.c fault.number) exit.SheetRefused call.sink call.sink_after call.status
     × (call.events ≡ read_of csv MAX_SHEET_LENGTH bytes ∷ [])
 
-pub record Consequences (programs : Programs) (call : Call) : Type 0 where
+pub record Consequences (programs : Shown) (call : Call) : Type 0 where
   -- Each file is read once at most, in order, and then the dump of `run` or the script of `load` is replaced once at most, and no other file.
   pub steps : FollowsSteps call.command call.events
   -- Whatever a call comes to that has done this, the output and the status are of that.
@@ -117,7 +116,7 @@ pub record Consequences (programs : Programs) (call : Call) : Type 0 where
   pub held : (format : Format) (dump name script asked : List ℕ) (lines : List ReadLine) (questions : List ReadQuestion) → call.command ≡ Some (Ask format dump name)
       → call.events ≡ read_of dump MAX_DUMP_LENGTH (history_dump lines) ∷ read_of name MAX_SCRIPT_LENGTH asked ∷ [] → RunsScript script lines
       → length (history_dump lines) ≤ MAX_DUMP_LENGTH → length asked ≤ MAX_SCRIPT_LENGTH → AreQuestions asked questions
-      → WritesOutput (asked_text format (dump_of (last_state unannotated lines)) (held_to programs (last_state monomials lines)) questions) (asked_status format (dump_of (last_state unannotated lines)) (held_to programs (last_state monomials lines)) questions)
+      → WritesOutput (asked_text format (dump_of (last_state unannotated lines)) (held_to (programs format) (last_state monomials lines)) questions) (asked_status format (dump_of (last_state unannotated lines)) (held_to (programs format) (last_state monomials lines)) questions)
       call.sink call.sink_after call.status
   -- From any well-formed dump `ask` and `export` answer by the log and the stored versions, as `answer_to` says. They answer a question about what would be with
   -- a change as the history held it that the commits of the changed log, made again, lead to: so every row, with its provenance and its values, is one of that
@@ -127,13 +126,13 @@ pub record Consequences (programs : Programs) (call : Call) : Type 0 where
   pub answered : (format : Format) (dump name bytes asked : List ℕ) (contents : Dump) (questions : List ReadQuestion) → call.command ≡ Some (Ask format dump name)
       → call.events ≡ read_of dump MAX_DUMP_LENGTH bytes ∷ read_of name MAX_SCRIPT_LENGTH asked ∷ [] → length bytes ≤ MAX_DUMP_LENGTH → length asked ≤ MAX_SCRIPT_LENGTH
       → WellFormed bytes contents → AreQuestions asked questions
-      → WritesOutput (asked_text format contents (answer_to programs contents) questions) (asked_status format contents (answer_to programs contents) questions) call.sink call.sink_after call.status
+      → WritesOutput (asked_text format contents (answer_to (programs format) contents) questions) (asked_status format contents (answer_to (programs format) contents) questions) call.sink call.sink_after call.status
   -- Where the dump is that of a history, `ask` and `export` answer every question as that history held it, whichever lines it was of.
   pub recorded : (format : Format) (dump name bytes asked : List ℕ) (contents : Dump) (lines : List Line) (questions : List ReadQuestion) → call.command ≡ Some (Ask format dump name)
       → call.events ≡ read_of dump MAX_DUMP_LENGTH bytes ∷ read_of name MAX_SCRIPT_LENGTH asked ∷ [] → length bytes ≤ MAX_DUMP_LENGTH → length asked ≤ MAX_SCRIPT_LENGTH
       → WellFormed bytes contents → contents ≡ dump_of (after unannotated parameters start lines) → AreQuestions asked questions
-      → WritesOutput (asked_text format contents (held_to programs (after monomials parameters start lines)) questions)
-      (asked_status format contents (held_to programs (after monomials parameters start lines)) questions) call.sink call.sink_after call.status
+      → WritesOutput (asked_text format contents (held_to (programs format) (after monomials parameters start lines)) questions)
+      (asked_status format contents (held_to (programs format) (after monomials parameters start lines)) questions) call.sink call.sink_after call.status
   -- `gen` writes lines, of which the first has the rounds.
   pub generated : (rounds : ℕ) → call.command ≡ Some (Generate rounds)
       → (others : List ℕ) × IsWholeLines others × WritesOutput (rounds_line rounds ++ others) exit.Done call.sink call.sink_after call.status

@@ -13,13 +13,12 @@ use Rattle.gp_csv.specs.Faults.{Fault}
 use Rattle.gp_load.specs.Loading.{LoadsText, loaded_of}
 use Rattle.gp_ask.specs.declared.format.Format.{Format}
 use Rattle.gp_ask.specs.Answers.{answer_to, held_to}
-use Rattle.gp_ask.specs.Asking.{Programs}
 use Rattle.gp_ask.specs.Questions.{AreQuestions, ReadQuestion}
 use Rattle.gprom_cli.specs.declared.load.TheConstants.{MAX_SHEET_LENGTH}
 use Rattle.gprom_cli.specs.declared.status.Status.{Status}
 use Rattle.gprom_cli.specs.declared.status.Status.TheVariants as exit
 use Rattle.gprom_cli.specs.Args.{Command, Run, Ask, Generate, Load, Help, Version}
-use Rattle.gprom_cli.specs.Call.{Call, ComesTo, RunsScript, WritesOutput, answered_status, asked_status, asked_text, history_dump, loaded_message, sheet_message}
+use Rattle.gprom_cli.specs.Call.{Call, ComesTo, RunsScript, WritesOutput, Shown, answered_status, asked_status, asked_text, history_dump, loaded_message, sheet_message}
 use Rattle.gprom_cli.specs.Consequences.{IsDetermined}
 
 -- no file was unreadable, and none was not replaced
@@ -55,7 +54,7 @@ LeavesOthers (Some (Load csv table script)) old new = OthersHaveSame script old 
 LeavesOthers (Some Help) old new = HaveSame old new
 LeavesOthers (Some Version) old new = HaveSame old new
 
-pub record OverFiles (programs : Programs) (call : Call) (old new : Contents) : Type 0 where
+pub record OverFiles (programs : Shown) (call : Call) (old new : Contents) : Type 0 where
   -- `run` writes the replies of the script that the file has, and the dump becomes that of its history.
   pub replied : (name dump script : List ℕ) (lines : List ReadLine) → call.command ≡ Some (Run name dump) → NoFault call.events → old name ≡ Some script → RunsScript script lines
       → length (history_dump lines) ≤ MAX_DUMP_LENGTH
@@ -64,12 +63,12 @@ pub record OverFiles (programs : Programs) (call : Call) (old new : Contents) : 
   pub held : (format : Format) (dump name script asked : List ℕ) (lines : List ReadLine) (questions : List ReadQuestion) → call.command ≡ Some (Ask format dump name) → NoFault call.events
       → RunsScript script lines → old dump ≡ Some (history_dump lines) → length (history_dump lines) ≤ MAX_DUMP_LENGTH → old name ≡ Some asked → length asked ≤ MAX_SCRIPT_LENGTH
       → AreQuestions asked questions
-      → WritesOutput (asked_text format (dump_of (last_state unannotated lines)) (held_to programs (last_state monomials lines)) questions) (asked_status format (dump_of (last_state unannotated lines)) (held_to programs (last_state monomials lines)) questions)
+      → WritesOutput (asked_text format (dump_of (last_state unannotated lines)) (held_to (programs format) (last_state monomials lines)) questions) (asked_status format (dump_of (last_state unannotated lines)) (held_to (programs format) (last_state monomials lines)) questions)
       call.sink call.sink_after call.status
   -- Its answers about what would be are those of any file that is a well-formed dump.
   pub hypothetical : (format : Format) (dump name bytes asked : List ℕ) (contents : Dump) (questions : List ReadQuestion) → call.command ≡ Some (Ask format dump name) → NoFault call.events
       → old dump ≡ Some bytes → length bytes ≤ MAX_DUMP_LENGTH → WellFormed bytes contents → old name ≡ Some asked → length asked ≤ MAX_SCRIPT_LENGTH → AreQuestions asked questions
-      → WritesOutput (asked_text format contents (answer_to programs contents) questions) (asked_status format contents (answer_to programs contents) questions) call.sink call.sink_after call.status
+      → WritesOutput (asked_text format contents (answer_to (programs format) contents) questions) (asked_status format contents (answer_to (programs format) contents) questions) call.sink call.sink_after call.status
   -- `load` makes SCRIPT the script of the sheet that the file has.
   pub loaded : (name table script bytes : List ℕ) → call.command ≡ Some (Load name table script) → NoFault call.events → old name ≡ Some bytes → length bytes ≤ MAX_SHEET_LENGTH
       → LoadsFile table script bytes call old new (loaded_of table bytes)

@@ -28,16 +28,17 @@ use Rattle.gp_csv.specs.Titled.{AreReloadable}
 use Rattle.gp_load.specs.Reloading.{LoadsAgain}
 use Rattle.gp_replay.specs.Differences.{IsOfHistory, difference}
 use Rattle.gp_ask.specs.declared.answered.Answered.TheVariants.{Sheet}
-use Rattle.gp_ask.specs.declared.format.Format.TheVariants.{Named}
 use Rattle.gp_ask.specs.Answers.{answer_to, held_to}
-use Rattle.gp_ask.specs.Asking.{Programs}
+use Rattle.gp_ask.specs.declared.format.Format.{Format}
+use Rattle.gp_ask.specs.declared.format.Format.TheVariants.{Text, Named, Sql}
 use Rattle.gp_ask.specs.Explained.{ExplainsLines}
 use Rattle.gp_ask.specs.Formats.{text_in}
 use Rattle.gp_ask.specs.Hypothetical.{remaking_refusal, replayed_dump}
 use Rattle.gp_ask.specs.Isolated.{IsIsolated, LosesToFirst}
 use Rattle.gp_ask.specs.Questions.{AreQuestions, ReadQuestion}
+use Rattle.gp_ask.specs.SqlAnswers.{AreStored, AsksLines}
 use Rattle.gp_whatif.specs.Changed.{changed_log}
-use Rattle.gprom_cli.specs.Call.{Call, HasOutcome, history_dump}
+use Rattle.gprom_cli.specs.Call.{Call, HasOutcome, Shown, history_dump}
 
 -- what the bytes of a file are read as: a dump, or the number of the first rule that fails and that of its line
 abbrev pub IsReadAsDump : List ℕ → Result Dump (ℕ × ℕ) → Type 0
@@ -45,8 +46,8 @@ IsReadAsDump bytes (Ok contents) = WellFormed bytes contents
 IsReadAsDump bytes (Err fault) = FirstFault bytes fault.0 fault.1
 
 pub record Promises (call : Call) : Type 0 where
-  -- the programs that answer explained queries
-  pub shown : Programs
+  -- the programs that answer explained queries, in each format
+  pub shown : Shown
   -- The arguments and what the shelf has done determine the output and the exit status, but for the lines of a summary of `gen` and for these programs. The output
   -- is complete, but for whole lines before a write error or before memory ran out. `ComesTo` has the events of each end: which bytes were read, and by which bytes
   -- a file was replaced.
@@ -65,10 +66,15 @@ pub record Promises (call : Call) : Type 0 where
   -- held for it, and what a statement or a commit changed are the rows that it wrote, as the machine held them before and after, whatever became of the
   -- transaction. What would be with a change is what the history held that the commits of the changed log, made again, lead to, and so it is answered from
   -- any dump.
-  pub held : (lines : List ReadLine) (question : y.Question) → answer_to shown (dump_of (last_state unannotated lines)) question ≡ held_to shown (last_state monomials lines) question
+  pub held : (format : Format) (lines : List ReadLine) (question : y.Question)
+      → answer_to (shown format) (dump_of (last_state unannotated lines)) question ≡ held_to (shown format) (last_state monomials lines) question
   -- Every query that the questions of a file ask to explain, of whatever well-formed dump, has as answer the lines of the text of one program that on every
   -- database of past versions gives the answer of the query over the state that the logged statements lead to.
-  pub explained : (bytes file : List ℕ) (contents : Dump) (lines : List ReadQuestion) → WellFormed bytes contents → AreQuestions file lines → ExplainsLines shown contents.entries lines
+  pub explained : (bytes file : List ℕ) (contents : Dump) (lines : List ReadQuestion) → WellFormed bytes contents → AreQuestions file lines → ExplainsLines (shown Text) contents.entries lines
+  -- Every query that `sql` writes for a question of a file, of whatever well-formed dump, is a query of SQL that over any tables of row versions gives the rows of the question's
+  -- query over the state that the logged statements lead to from the versions that they hold. The tables that it writes before are such tables.
+  pub asked : (bytes file : List ℕ) (contents : Dump) (lines : List ReadQuestion) → WellFormed bytes contents → AreQuestions file lines → AsksLines (shown Sql) contents.entries lines
+  pub stored : (bytes : List ℕ) (contents : Dump) → WellFormed bytes contents → AreStored contents.entries contents.tables
   -- What `export` writes with names for rows under such titles is a sheet that loads again, with the number of the question in front of each row.
   pub reloaded : (number : ℕ) (titles : List (List ℕ)) (rows : List (List Cell)) → number < 2 ^ 63 → AreReloadable (codes "line" ∷ titles) rows
       → LoadsAgain number (codes "line" ∷ titles) rows (text_in Named number (Sheet (record { titles = codes "line" ∷ titles; rows = rows })))
@@ -78,7 +84,8 @@ pub record Promises (call : Call) : Type 0 where
   -- CHECK names a line of every well-formed dump (`difference`), unless it is that of a history, as the history machine takes lines: of some lines of a script.
   -- Then every question is answered as this history held it.
   pub checked : (bytes : List ℕ) (contents : Dump) → WellFormed bytes contents → difference contents ≡ None
-      → (history : IsOfHistory contents) × ((question : y.Question) → answer_to shown contents question ≡ held_to shown (after monomials parameters start history.lines) question)
+      → (history : IsOfHistory contents)
+      × ((format : Format) (question : y.Question) → answer_to (shown format) contents question ≡ held_to (shown format) (after monomials parameters start history.lines) question)
   -- Each transaction of a history is isolated as its BEGIN says, whatever became of it, and the first committer of a row wins: the rows that a commit wrote were
   -- written by no commit after their bases, and no transaction is lost where this holds of its rows. So it is in the history that the commits of the changed
   -- log of any dump, made again, lead to, where none of them stops.

@@ -11,9 +11,10 @@ use Rattle.gp_dump.specs.Rules.{FirstFault, WellFormed}
 use Rattle.gp_log.specs.LogFacts.{tables_in}
 use Rattle.gp_ask.specs.declared.answered.Answered.{Answered}
 use Rattle.gp_ask.specs.declared.format.Format.{Format}
-use Rattle.gp_ask.specs.Computed.{computed_answer}
-use Rattle.gp_ask.specs.Printed.{answer_to}
-use Rattle.gp_ask.specs.Programs.{program_lines}
+use Rattle.gp_ask.specs.Computed.{computed_in}
+use Rattle.gp_ask.specs.Answers.{answer_to}
+use Rattle.gp_ask.specs.Programs.{programs_in}
+use Rattle.gp_ask.specs.Formats.{heading_in}
 use Rattle.gp_ask.specs.QuestionFiles.{answers_text, has_refused, line_answer_in, line_answer_text}
 use Rattle.gp_ask.specs.Questions.{AreQuestions, ReadQuestion}
 use Rattle.gprom_cli.specs.declared.status.Status.{Status}
@@ -29,7 +30,7 @@ script_dump script = written_text (dump_of (final_state unannotated script))
 pub record Ends (command : Option Command) (before after : List Event) (sink sink_after : SinkState) (status : Status) : Type 0 where
   pub events : List Event
   pub grown : after ≡ before ++ events
-  pub outcome : HasOutcome program_lines (record { command = command; events = events; sink = sink; sink_after = sink_after; status = status })
+  pub outcome : HasOutcome programs_in (record { command = command; events = events; sink = sink; sink_after = sink_after; status = status })
 
 -- ---- writing
 
@@ -65,16 +66,19 @@ pub data StopsReading (name : List ℕ) (most : ℕ) (before after : List Event)
 -- the answers that are computed from a dump
 module _ (format : Format) (dump : Dump) where
   abbrev pub line_answer : ℕ × List ℕ → Answered
-  line_answer line = line_answer_in format (tables_in dump.entries) (computed_answer dump) line
+  line_answer line = line_answer_in format (tables_in dump.entries) (computed_in format dump) line
 
   abbrev pub line_text : ℕ × List ℕ → List ℕ
-  line_text line = line_answer_text format (tables_in dump.entries) (computed_answer dump) line
+  line_text line = line_answer_text format (tables_in dump.entries) (computed_in format dump) line
+
+  abbrev pub file_answers : List ℕ → List ℕ
+  file_answers questions = answers_text format (tables_in dump.entries) (computed_in format dump) questions
 
   abbrev pub file_text : List ℕ → List ℕ
-  file_text questions = answers_text format (tables_in dump.entries) (computed_answer dump) questions
+  file_text questions = heading_in format dump ++ file_answers questions
 
   abbrev pub file_refused : List ℕ → Bool
-  file_refused questions = has_refused format (tables_in dump.entries) (computed_answer dump) questions
+  file_refused questions = has_refused format (tables_in dump.entries) (computed_in format dump) questions
 
 -- how the answer to a question, or those to several, are written: all, or whole lines before an error; and whether one of them was refused
 pub record WritesAnswers (text : List ℕ) (refuses : Bool) (before after : SinkState) (result : Result Bool SinkStop) : Type 0 where
@@ -85,6 +89,6 @@ pub record WritesAnswers (text : List ℕ) (refuses : Bool) (before after : Sink
 pub data Answers (format : Format) (bytes asked : List ℕ) (sink sink_after : SinkState) (status : Status) : Type 0 where
   is_damaged : (f line : ℕ) → FirstFault bytes f line → WritesOutput (damage_message f line) exit.Damaged sink sink_after status → Answers format bytes asked sink sink_after status
   is_answered : (contents : Dump) (lines : List ReadQuestion) → WellFormed bytes contents → AreQuestions asked lines
-      → WritesOutput (asked_text format contents (answer_to contents) lines) (asked_status format contents (answer_to contents) lines) sink sink_after status
+      → WritesOutput (asked_text format contents (answer_to (programs_in format) contents) lines) (asked_status format contents (answer_to (programs_in format) contents) lines) sink sink_after status
       → Answers format bytes asked sink sink_after status
   no_answer : sink_after ≡ sink → status ≡ exit.OutOfMemory → Answers format bytes asked sink sink_after status

@@ -14,7 +14,7 @@ pub const VERSION: &str = "0.6.0";
 
 /// The usage line.
 const USAGE: &str =
-    "usage: gprom run SCRIPT DUMP, gprom ask DUMP QUESTIONS, gprom gen N, gprom load CSV TABLE SCRIPT, gprom export DUMP QUESTIONS [names], gprom help\n";
+    "usage: gprom run SCRIPT DUMP, gprom ask DUMP QUESTIONS, gprom gen N, gprom load CSV TABLE SCRIPT, gprom export DUMP QUESTIONS [names], gprom sql DUMP QUESTIONS, gprom help\n";
 
 /// The page of `help`, behind the usage line.
 pub const HELP: &str = "
@@ -30,6 +30,8 @@ Commands:
       Writes an answer to each line of QUESTIONS. No file is changed.
   gprom export DUMP QUESTIONS [names]
       Answers as CSV; with the word names behind them, columns have the names of the query.
+  gprom sql DUMP QUESTIONS
+      Writes the row versions and the questions as a script in SQL for other engines.
   gprom load CSV TABLE SCRIPT
       Writes a script that creates TABLE with the rows of a sheet.
   gprom gen N

@@ -24,9 +24,10 @@ pub enum Command<'a> {
         /// The name of the dump.
         dump: &'a str,
     },
-    /// `ask DUMP QUESTIONS` and `export DUMP QUESTIONS`, the latter with or without `names` behind them: both files are read.
+    /// `ask DUMP QUESTIONS`, `export DUMP QUESTIONS`, with or without `names` behind them, and `sql DUMP QUESTIONS`: both files are read.
     Ask {
-        /// How the answers are written: as text by `ask`, as CSV by `export`, and with the names of columns where it says `names`.
+        /// How the answers are written: as text by `ask`, as CSV by `export`, with the names of columns where it says `names`, and as SQL by
+        /// `sql`.
         format: Format,
         /// The name of the dump.
         dump: &'a str,
@@ -137,6 +138,8 @@ fn format_of(word: &str) -> Option<Format>
         Some(Format::Text)
     } else if is_same(word, "export") {
         Some(Format::Csv)
+    } else if is_same(word, "sql") {
+        Some(Format::Sql)
     } else {
         None
     }
@@ -299,8 +302,8 @@ fn command_of_others(alloc: Global, args: &[String]) -> Result<Option<Command<'_
     Ok(command)
 }
 
-/// The command that the arguments ask for, or `None` where they are invalid: `help` or `version`, also as an option; `run`, `ask` or
-/// `export` and two names that are not empty and do not begin with a hyphen, but that of questions may be `-`, and behind those of an
+/// The command that the arguments ask for, or `None` where they are invalid: `help` or `version`, also as an option; `run`, `ask`,
+/// `export` or `sql` and two names that are not empty and do not begin with a hyphen, but that of questions may be `-`, and behind those of an
 /// export the word `names`; `gen` and a number from 1 to [`MAX_ROUNDS`]; or `load` and three such names, of which the second is that of a table ([`is_name`], in letters of either case).
 /// Running out of memory is the only error.
 pub(crate) fn parse(alloc: Global, args: &[String]) -> Result<Option<Command<'_>>, NoMemory>

@@ -1,22 +1,23 @@
-//! `ask DUMP QUESTIONS` and `export DUMP QUESTIONS`: answers questions from a dump, as text or as CSV, also with the names of columns.
+//! `ask DUMP QUESTIONS`, `export DUMP QUESTIONS` and `sql DUMP QUESTIONS`: answers questions from a dump, as text, as CSV, also with the names of columns, or as SQL.
 
 ghost use Rattle.std.specs.Prelude.{◌≡◌, ◌≤◌, ℕ, List, [], ◌∷◌, ◌++◌, IfOk, length, Some, true};
 ghost use Rattle.gp_io.specs.Events.{Event};
 ghost use Rattle.gp_check.specs.Valid.{tables_are_valid};
 ghost use Rattle.gp_log.specs.LogFacts.{tables_in};
 ghost use Rattle.gp_ask.specs.Keeping.{AreKept};
+ghost use Rattle.gp_ask.specs.Formats.{heading_in};
 ghost use Rattle.gp_ask.specs.Questions.{is_refused};
 ghost use Rattle.gp_dump.specs.WholeDumps.{IsDump};
 ghost use Rattle.gp_dump.specs.Views.{dump_view};
 ghost use Rattle.gprom_cli.specs.Args.{Ask};
 ghost use Rattle.gprom_cli.specs.Call.{WritesOutput, answered_status, read_of};
-ghost use Rattle.gprom_cli.specs.Steps.{Answers, Ends, WritesAnswers, file_refused, file_text, line_answer, line_text};
+ghost use Rattle.gprom_cli.specs.Steps.{Answers, Ends, WritesAnswers, WritesText, file_answers, file_refused, file_text, line_answer, line_text};
 
 use crate::laws::dumps_answer_for_changed_histories;
 use crate::output::{stop_status, write_damage};
 use crate::read::read_file;
 use crate::status::Status;
-use gp_ask::{Format, KeptAnnotations, answer_line_in, write_answer_in};
+use gp_ask::{Format, KeptAnnotations, answer_line_in, write_answer_in, write_heading_in};
 use gp_base::NoMemory;
 use gp_dump::{Dump, DumpStop, MAX_DUMP_LENGTH, read_dump};
 use gp_io::{Shelf, Sink, SinkStop};
@@ -103,7 +104,7 @@ fn write_lines<K: Sink>(
     requires valid { tables_are_valid (tables_in (dump_view dump.now).entries) ≡ true }
     requires short { length questions.now ≤ MAX_SCRIPT_LENGTH }
     ensures { WritesAnswers
-        (file_text format (dump_view dump.now) questions.now)
+        (file_answers format (dump_view dump.now) questions.now)
         (file_refused format (dump_view dump.now) questions.now)
         (K.state out.old) (K.state out.new) result }
 {
@@ -129,12 +130,68 @@ fn write_answers<K: Sink>(
     requires valid { tables_are_valid (tables_in (dump_view dump.now).entries) ≡ true }
     requires short { length questions.now ≤ MAX_SCRIPT_LENGTH }
     ensures { WritesOutput
-        (file_text format (dump_view dump.now) questions.now)
+        (file_answers format (dump_view dump.now) questions.now)
         (answered_status (file_refused format (dump_view dump.now) questions.now))
         (K.state out.old) (K.state out.new) result }
 {
     match write_lines(alloc, format, dump, questions, out) {
         Ok(refused) => Status::answered(refused),
+        Err(stop) => stop_status(stop),
+    }
+}
+
+/// Writes a text at once, unless it is empty.
+fn write_text<K: Sink>(text: &[u8], out: &mut K) -> Result<(), SinkStop>
+    ensures { WritesText text.now (K.state out.old) (K.state out.new) result }
+{
+    match text {
+        [] => Ok(()),
+        _ => out.write_all(text),
+    }
+}
+
+/// What comes before all answers.
+fn heading(alloc: Global, format: Format, dump: &Dump) -> Result<Vec<u8>, NoMemory>
+    ensures { IfOk result (λ text. text.items ≡ heading_in format (dump_view dump.now)) }
+{
+    let mut text = Vec::new(alloc);
+    write_heading_in(alloc, format, dump, &mut text)?;
+    Ok(text)
+}
+
+/// Writes what comes before all answers, if there is something.
+fn write_heading<K: Sink>(
+    alloc: Global,
+    format: Format,
+    dump: &Dump,
+    out: &mut K,
+) -> Result<(), SinkStop>
+    ensures { WritesText (heading_in format (dump_view dump.now)) (K.state out.old) (K.state out.new) result }
+{
+    match heading(alloc, format, dump) {
+        Ok(text) => write_text(&text, out),
+        Err(NoMemory) => Err(SinkStop::NoMemory),
+    }
+}
+
+/// Answers questions from a dump that is well formed, behind what comes before all answers.
+fn write_file<K: Sink>(
+    alloc: Global,
+    format: Format,
+    dump: &Dump,
+    questions: &[u8],
+    out: &mut K,
+) -> Status
+    requires rules { IsDump (dump_view dump.now) }
+    requires valid { tables_are_valid (tables_in (dump_view dump.now).entries) ≡ true }
+    requires short { length questions.now ≤ MAX_SCRIPT_LENGTH }
+    ensures { WritesOutput
+        (file_text format (dump_view dump.now) questions.now)
+        (answered_status (file_refused format (dump_view dump.now) questions.now))
+        (K.state out.old) (K.state out.new) result }
+{
+    match write_heading(alloc, format, dump, out) {
+        Ok(()) => write_answers(alloc, format, dump, questions, out),
         Err(stop) => stop_status(stop),
     }
 }
@@ -155,7 +212,7 @@ fn answer<K: Sink>(
         Ok(dump) => {
             // What would be with a change is what that history held, by this law. The call does nothing.
             dumps_answer_for_changed_histories();
-            write_answers(alloc, format, &dump, questions, out)
+            write_file(alloc, format, &dump, questions, out)
         }
         Err(DumpStop::Fault { f, line }) => write_damage(alloc, out, f, line),
         Err(DumpStop::NoMemory) => Status::OutOfMemory,

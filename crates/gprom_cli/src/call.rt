@@ -8,7 +8,10 @@ ghost use Rattle.gprom_cli.specs.Status.{exit_number};
 
 use crate::execute::execute;
 use crate::laws::{dumps_of_histories_are_known, scripts_have_well_formed_dumps};
-use gp_ask::{histories_are_isolated, programs_explain_their_questions};
+use gp_ask::{
+    histories_are_isolated, programs_explain_their_questions, queries_ask_their_questions,
+    row_versions_are_stored,
+};
 use gp_io::{Shelf, Sink};
 use gp_load::exported_sheets_load_again;
 use gp_plantext::texts_are_read_again;
@@ -41,6 +44,8 @@ pub fn gprom<H: Shelf, K: Sink>(alloc: Global, args: &[String], shelf: &mut H, o
     scripts_have_well_formed_dumps();
     dumps_of_histories_are_known();
     programs_explain_their_questions();
+    queries_ask_their_questions();
+    row_versions_are_stored();
     exported_sheets_load_again();
     histories_are_isolated();
     execute(alloc, args, shelf, out).number()

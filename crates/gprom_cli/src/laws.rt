@@ -17,7 +17,10 @@ ghost use Rattle.gp_script.specs.Scripts.{final_state};
 ghost use Rattle.gp_dump.specs.Dumps.{Dump, dump_of};
 ghost use Rattle.gp_dump.specs.WholeDumps.{IsDump};
 ghost use Rattle.gp_ask.specs.declared.format.Format.{Format};
-ghost use Rattle.gp_ask.specs.Printed.{answer_to, held_to};
+ghost use Rattle.gp_ask.specs.Answers as answers;
+ghost use Rattle.gp_ask.specs.Asking.{Programs};
+ghost use Rattle.gp_ask.specs.Printed.{held_to};
+ghost use Rattle.gp_ask.specs.Programs.{programs_in};
 ghost use Rattle.gp_ask.specs.Computed.{computed_answer};
 ghost use Rattle.gp_ask.specs.Hypothetical.{remaking_refusal, replayed_dump};
 ghost use Rattle.gp_ask.specs.QuestionFiles.{answers_text, has_refused};
@@ -25,10 +28,13 @@ ghost use Rattle.gprom_cli.specs.Call.{Call};
 ghost use Rattle.gprom_cli.specs.Consequences.{Consequences};
 ghost use Rattle.gprom_cli.specs.OverFiles.{OverFiles};
 ghost use Rattle.gprom_cli.specs.Promises.{Promises};
-ghost use Rattle.gprom_cli.specs.Steps.{file_refused, file_text};
+ghost use Rattle.gprom_cli.specs.Steps.{file_answers, file_refused};
 ghost use Rattle.gprom_cli.specs.Summaries.{rows_in};
 
-use gp_ask::{dumps_answer_as_changed_histories, histories_answer_as_their_dumps};
+use gp_ask::{
+    dumps_answer_as_changed_histories, histories_answer_as_their_dumps,
+    histories_answer_with_any_programs,
+};
 use gp_base::Monomial;
 use gp_dump::dumps_of_histories_are_well_formed;
 use gp_io::{CalmShelf, MemShelf, Shelf, events_lead_to_files};
@@ -58,31 +64,34 @@ pub fn scripts_have_well_formed_dumps()
     dumps_answer_as_changed_histories()
 }
 
-/// The dump of every history, of whatever lines of a script, answers every question as the history held it (`held`). A dump that keeps the
+/// The dump of every history, of whatever lines of a script, answers every question as the history held it, whichever programs answer
+/// explained questions (`held`). A dump that keeps the
 /// rules is that of a history where CHECK finds no difference (`checked`), and the line of a difference is the first that is not as the log
 /// makes it (`first`).
 pub fn dumps_of_histories_are_known()
-    ensures held { (lines : List Line) (question : y.Question)
-        → answer_to (dump_of (after unannotated parameters start lines)) question
-        ≡ held_to (after monomials parameters start lines) question }
+    ensures held { (programs : Programs) (lines : List Line) (question : y.Question)
+        → answers.answer_to programs (dump_of (after unannotated parameters start lines)) question
+        ≡ answers.held_to programs (after monomials parameters start lines) question }
     ensures checked { (dump : Dump) → IsDump dump → difference dump ≡ None → IsOfHistory dump }
     ensures first { (dump : Dump) (line : ℕ) → IsDump dump
         → difference dump ≡ Some line → DiffersFirst dump line }
 {
     dumps_of_histories_do_not_differ();
     differences_are_first();
-    histories_answer_as_their_dumps()
+    histories_answer_with_any_programs()
 }
 
 /// Every well-formed dump answers every file of questions with what the histories held that would have been, where a question asks what
 /// would be with a change: with the same text in each format, and refusing a question where that history refuses it.
 pub fn dumps_answer_for_changed_histories()
     ensures answers { (format : Format) (dump : Dump) (questions : List ℕ) → IsDump dump
-        → file_text format dump questions
-        ≡ answers_text format (tables_in dump.entries) (answer_to dump) questions }
+        → file_answers format dump questions
+        ≡ answers_text format (tables_in dump.entries)
+        (answers.answer_to (programs_in format) dump) questions }
     ensures refusals { (format : Format) (dump : Dump) (questions : List ℕ) → IsDump dump
         → file_refused format dump questions
-        ≡ has_refused format (tables_in dump.entries) (answer_to dump) questions }
+        ≡ has_refused format (tables_in dump.entries)
+        (answers.answer_to (programs_in format) dump) questions }
 {
     dumps_answer_as_changed_histories()
 }

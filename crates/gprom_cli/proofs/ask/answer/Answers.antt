@@ -12,11 +12,11 @@ returns-in-Ok g c =
     let dump = dump_view c.in-Ok.dump in
     let formed = kept-found c.args.bytes.now dump c.in-Ok.ensures.exact in
     let rules = (whole-text c.args.bytes.now dump formed).rules in
-    answered-read c.args.format c.args.bytes.now c.args.questions.now dump (g.K.Sink.state c.args.out.now) (g.K.Sink.state c.write_answers.new.out) c.write_answers.result
+    answered-read c.args.format c.args.bytes.now c.args.questions.now dump (g.K.Sink.state c.args.out.now) (g.K.Sink.state c.write_file.new.out) c.write_file.result
     formed
     (c.dumps_answer_for_changed_histories.ensures.answers c.args.format dump c.args.questions.now rules)
     (c.dumps_answer_for_changed_histories.ensures.refusals c.args.format dump c.args.questions.now rules)
-    c.write_answers.ensures
+    c.write_file.ensures
 
 pub returns-in-Err-Fault : goal.returns-in-Err-Fault
 returns-in-Err-Fault g c =

@@ -1,6 +1,6 @@
 use Rattle.std.proofs.Common.{ℕ, List, subst}
 use Rattle.gp_log.specs.LogFacts.{tables_in}
-use Rattle.gp_ask.specs.Computed.{computed_answer}
+use Rattle.gp_ask.specs.Computed.{computed_in}
 use Rattle.gp_dump.specs.Views.{dump_view}
 use Rattle.gprom_cli.proofs.AnswersLemmas.{IsProgress, ends, goes_on, starts, stops_with}
 use Rattle.gprom_cli.proofs.ask.write_lines.Goals as goal
@@ -9,14 +9,14 @@ pub loop-line-init : goal.loop-line-init
 loop-line-init g c =
     let sink = g.K.Sink.state c.args.out.now in
     record {
-      progress = starts c.args.format (tables_in (dump_view c.args.dump.now).entries) (computed_answer (dump_view c.args.dump.now)) c.args.questions.now sink sink c.lines-rest.result c.lines-rest.ensures.lines;
+      progress = starts c.args.format (tables_in (dump_view c.args.dump.now).entries) (computed_in c.args.format (dump_view c.args.dump.now)) c.args.questions.now sink sink c.lines-rest.result c.lines-rest.ensures.lines;
       kept = c.new-kept.ensures c.args.dump.now;
     }
 
 pub loop-line-preserved : goal.loop-line-preserved
 loop-line-preserved g c =
     let tables = tables_in (dump_view c.args.dump.now).entries in
-    let answers = computed_answer (dump_view c.args.dump.now) in
+    let answers = computed_in c.args.format (dump_view c.args.dump.now) in
     let old = g.K.Sink.state c.args.out.now in
     let new = g.K.Sink.state c.loop-line.out in
     let line = c.in-Some.line in
@@ -31,7 +31,7 @@ loop-line-preserved g c =
 pub returns-in_err-refused : goal.returns-in_err-refused
 returns-in_err-refused g c =
     let tables = tables_in (dump_view c.args.dump.now).entries in
-    let answers = computed_answer (dump_view c.args.dump.now) in
+    let answers = computed_in c.args.format (dump_view c.args.dump.now) in
     let old = g.K.Sink.state c.args.out.now in
     let new = g.K.Sink.state c.loop-line.out in
     let line = c.in-Some.line in
@@ -42,7 +42,7 @@ returns-in_err-refused g c =
 pub returns : goal.returns
 returns g c =
     let tables = tables_in (dump_view c.args.dump.now).entries in
-    let answers = computed_answer (dump_view c.args.dump.now) in
+    let answers = computed_in c.args.format (dump_view c.args.dump.now) in
     let old = g.K.Sink.state c.args.out.now in
     let new = g.K.Sink.state c.loop-line.out in
     let way = subst (λ (lines : List (ℕ × List ℕ)). IsProgress c.args.format tables answers c.args.questions.now lines c.loop-line.refused old new) c.in_default.ensures.steps.0 c.loop-line.invariant.progress in
