@@ -60,7 +60,7 @@ fn input_file(words: &str) -> Option<&str> {
     let (first, rest) = rest.split_once(' ')?;
     match command {
         "run" | "load" => Some(first),
-        "ask" | "export" => Some(rest.split_once(' ').unwrap_or((rest, "")).0),
+        "ask" | "export" | "sql" => Some(rest.split_once(' ').unwrap_or((rest, "")).0),
         _ => None,
     }
 }
