@@ -1,0 +1,108 @@
+"""Compares what engines make of the text of `gprom sql` with the answers of `gprom ask`."""
+import collections
+import re
+from dataclasses import dataclass, field
+
+from bridge import gprom
+
+from . import Failure, dump, printed
+from .histories import questions_of, transactions_of
+
+EXPLAIN = re.compile(r'^\s*EXPLAIN\s+', re.I)
+PLAIN = re.compile(r'\s*(?:AS\s+OF|REENACT)\s', re.I)
+NOT_EXPORTED = 'E30 not exported'
+REFUSAL = re.compile(r'E\d\d ')
+TEXT = re.compile(r'E(?:01|02|03|14|16) ')              # refusals of a question's text, whose columns count an EXPLAIN in front of it
+COMPUTED = re.compile(r'E2[567] ')                      # refusals of an answer that is computed: the query is printed all the same
+NO_MISTAKE = re.compile(r'E1[123] ')                    # of a random script: lost commits, too many rows, sources of too many rows
+
+
+@dataclass
+class Counts:
+    """What was compared, and each difference as a line."""
+    rows: int = 0                                       # queries, by their rows
+    refusals: int = 0                                   # questions that are refused alike
+    others: int = 0                                     # tables of row versions, and texts of dumps without rows
+    left_out: int = 0                                   # queries whose rows `ask` does not print, for a limit
+    failures: list[str] = field(default_factory=list)
+
+    def add(self, other):
+        """Adds what another history gave."""
+        for name in ('rows', 'refusals', 'others', 'left_out', 'failures'):
+            setattr(self, name, getattr(self, name) + getattr(other, name))
+
+
+def history(given, program, engines, folder, edit=lambda text: text):
+    """Compares all questions of a history. `edit` makes faults in the text."""
+    counts = Counts()
+    made, refusals = dump.run(program, folder, given.script)
+    if given.made:
+        counts.failures += [f'a line is refused: {text}' for text in refusals if not NO_MISTAKE.match(text)]
+    questions = questions_of(given, made.tables, transactions_of(made))
+    whole = made.sql(questions)
+    text = printed.read(edit(whole))
+    if [part.number for part in text.parts] != list(range(1, len(questions) + 1)) or text.table_names() != made.tables:
+        counts.failures.append('the text has not the tables and questions of the dump')
+        return counts
+    counts.add(of_log_alone(made, questions, whole))
+    expected = expected_rows(made, questions, text.parts, counts)
+    texts = [part.text for part in text.parts] + [f'-- {table}\nSELECT * FROM {table}_versions;\n' for table in made.tables]
+    results = [(engine.name, run(engine, text.tables, texts)) for engine in engines]
+    names = questions + [f'the row versions of {table}' for table in made.tables]
+    for at, (name, rows) in enumerate(zip(names, expected)):
+        if rows is not None:
+            differences = [f'{name}: {engine}: {fault}' for engine, found in results if (fault := difference(rows, found[at]))]
+            counts.failures += differences
+            counts.rows += not differences and at < len(questions)
+            counts.others += not differences and at >= len(questions)
+    return counts
+
+
+def run(engine, tables, texts):
+    """What an engine gives for each text: rows, or a Failure."""
+    try:
+        return engine.run(tables, texts)
+    except Failure as failure:
+        return [failure] * len(texts)
+
+
+def of_log_alone(made, questions, whole):
+    """The queries are those of the log, whatever rows the dump has."""
+    bare = made.without_rows().sql(questions)
+    return Counts(others=1) if printed.read(bare).parts == printed.read(whole).parts else Counts(failures=['the dump without its rows has other queries'])
+
+
+def expected_rows(made, questions, parts, counts):
+    """The rows that `ask` prints for each question, None where there is nothing to run, and those of each table of row versions."""
+    bare = [EXPLAIN.sub('', question, count=1) for question in questions]
+    explained = [f'EXPLAIN {question}' if PLAIN.match(question) else question for question in questions]
+    answers = made.ask([*bare, *explained, *(f'VERSIONS OF {table}' for table in made.tables)])
+    rows = [None] * len(parts)
+    for at, part in enumerate(parts):
+        (head, lines), (said, _) = answers[at], answers[len(parts) + at]
+        if part.refusal is not None or REFUSAL.match(said):
+            allowed = [head if PLAIN.match(questions[at]) and TEXT.match(head) else said, *([] if PLAIN.match(bare[at]) else [NOT_EXPORTED])]
+            counts.refusals += part.refusal in allowed
+            counts.failures += [] if part.refusal in allowed else [f'{questions[at]}: {part.refusal or "a query"} in place of {allowed[-1]}']
+        elif COMPUTED.match(head):
+            counts.left_out += 1
+        else:
+            rows[at] = [gprom.cells(line, 0)[0] for line in lines]
+    return rows + [[version(line) for line in lines] for _, lines in answers[2 * len(parts):]]
+
+
+def version(line):
+    """A row version as a row: its identity, the version that wrote it, the one that ended it or NULL, and its cells."""
+    identity, since, till, row = line.split(' ', 3)
+    return (identity, int(since), None if till == '-' else int(till), *gprom.cells(row, 0)[0])
+
+
+def difference(expected, found):
+    """The first difference of two bags of rows, or None."""
+    if isinstance(found, Failure):
+        return str(found)
+    ours, theirs = collections.Counter(expected), collections.Counter(found)
+    for side, rows in (('gprom', ours - theirs), ('the engine', theirs - ours)):
+        if rows:
+            return f'{side} alone has {min(rows, key=repr)}'
+    return None
