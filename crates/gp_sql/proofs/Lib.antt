@@ -8,6 +8,7 @@ pub mod PublishLemmas
 pub mod QueryLemmas
 pub mod QuerySizes
 pub mod SourceLemmas
+pub mod SubstitutionTypes
 pub mod TableLemmas
 pub mod TermLemmas
 pub mod TruthLemmas
