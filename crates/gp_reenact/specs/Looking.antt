@@ -1,4 +1,4 @@
--- Part of the statement: the answer to a question about what any transaction saw, whatever became of it, over the log and the row versions; and what one
+-- Of the contract of `looked`: the answer to a question about what any transaction saw, whatever became of it, over the log and the row versions; and what one
 -- that looks at a statement is refused.
 use Rattle.std.specs.Prelude.{ℕ, suc, List, Option, None, Result}
 use Rattle.gp_base.specs.declared.refusal.Refusal.{Refusal}

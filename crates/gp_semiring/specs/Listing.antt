@@ -1,4 +1,4 @@
--- Part of the statement: rows with their provenance, listed: each distinct row once, with the monomials of all its occurrences. So the sum of a row's
+-- Of the contract of `list`: rows with their provenance, listed: each distinct row once, with the monomials of all its occurrences. So the sum of a row's
 -- monomials is its provenance polynomial (Green, Karvounarakis and Tannen 2007), and a monomial stands there as often as it occurs. Rows and
 -- monomials are in order.
 use Rattle.std.specs.Prelude.{◌-◌, Bool, List, [], ◌∷◌, ◌++◌, length, take, slice_index_or, if◌then◌else◌}
