@@ -3,6 +3,7 @@ pub mod Meaning
 pub mod NamedQueries
 pub mod PlacedTables
 pub mod QueryParts
+pub mod Spelled
 pub mod Spelling
 pub mod Sql
 pub mod SqlCells

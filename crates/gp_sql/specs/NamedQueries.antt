@@ -1,4 +1,4 @@
--- Part of the statement: the query of SQL of a plain program that has types. Each query in it is a common table expression, and no query stands inside of
+-- Of the contract of `write_query`: the query of SQL of a plain program that has types. Each query in it is a common table expression, and no query stands inside of
 -- another one: the outermost query of step j is step_j, the others are q1, q2, .., in the order in which they end, and the query of the last line stands
 -- behind them. So the text is as long as the program is.
 use Rattle.std.specs.Prelude.{ℕ, zero, suc, Bool, true, false, ◌||◌, List, [], ◌∷◌, ◌++◌, length, take, drop, pos, Option, Some, None}

@@ -1,4 +1,4 @@
--- Part of the statement: the terms and tests of SQL of the expressions and conditions of a plain program that has types.
+-- Of the contract of `write_query`: the terms and tests of SQL of the expressions and conditions of a plain program that has types.
 use Rattle.std.specs.Prelude.{ℕ, Bool, true, false, List, [], ◌∷◌, ◌++◌, drop, pos, codes, Option, Some, None, ℤ, if◌then◌else◌}
 use Rattle.std.specs.Fmt.{decimal}
 use Rattle.std.specs.List.{concat}
@@ -9,7 +9,7 @@ use Rattle.gp_expr.specs.declared.expr.Cmp.TheVariants.{Eq}
 use Rattle.gp_expr.specs.Expressions as e
 use Rattle.gp_expr.specs.Expressions.{Expr, Cond, Parts}
 use Rattle.gp_sql.specs.declared.cell_type.CellType.{CellType}
-use Rattle.gp_sql.specs.declared.cell_type.CellType.TheVariants.{Null, Int, Text, Id, Mark}
+use Rattle.gp_sql.specs.declared.cell_type.CellType.TheVariants.{Null, Int, Text, Id}
 use Rattle.gp_sql.specs.Sql as s
 use Rattle.gp_sql.specs.Sql.{SqlType, Term, Terms, Test}
 use Rattle.gp_sql.specs.Types.{expr_type}

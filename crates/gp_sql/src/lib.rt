@@ -8,8 +8,9 @@
 //! `item_writer.rt` append values; `name.rt`, `block_writer.rt`, `scan_writer.rt`, `values_writer.rt` and `publish_writer.rt` the
 //! queries of operators; `query_writer.rt` whole queries, and `program_writer.rt` those of programs. `table_writer.rt` writes the
 //! tables. In `specs/`, `Sql` is the tree of a query and `Meaning` what it gives; `Types`, `Translation` and `NamedQueries` make the
-//! tree of a program, and `Spelling` its text; `SqlCells` and `VersionTables` relate its rows to those of programs, and `TableTexts`
-//! is the text of the tables. These are part of the statement, the others of the contracts of the writers.
+//! tree of a program, and `Spelling` its text, of which `Spelled` trees have one each; `SqlCells` and `VersionTables` relate its rows to
+//! those of programs, and `TableTexts` is the text of the tables. `Translation` and `NamedQueries` belong to the contract of
+//! `write_query`, the others named here to the statement, and the rest to the contracts of the writers.
 //!
 //! ```text
 //! write_tables(alloc, &catalog, &versions, &mut out)?; // CREATE TABLE r_versions (..); INSERT INTO r_versions VALUES (..);
@@ -34,6 +35,8 @@ mod types;
 mod values_writer;
 
 pub use cell_type::CellType;
-pub use laws::queries_give_the_rows_of_programs;
+pub use laws::{
+    queries_give_the_rows_of_programs, queries_of_programs_are_spelled, texts_spell_one_query,
+};
 pub use program_writer::write_query;
 pub use table_writer::write_tables;
