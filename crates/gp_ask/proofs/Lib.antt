@@ -3,6 +3,7 @@ mod BackendLemmas
 mod CausesLemmas
 mod ChangedLines
 mod ChangesLemmas
+mod ColumnNames
 mod CommitLines
 mod CommittedLines
 mod CountedLemmas

@@ -1,5 +1,5 @@
 -- Every question of a file that SQL asks of a well-formed dump has a text that asks for its rows.
-use Rattle.std.proofs.Common.{◌≡◌, ℕ, zero, suc, Bool, true, false, cond, List, [], ◌∷◌, ◌++◌, length, map, Option, Some, None, Result, Ok, Err, refl, sym, ap, subst, ◌∙◌, append_assoc, arith}
+use Rattle.std.proofs.Common.{◌≡◌, ℕ, zero, suc, Bool, true, false, cond, List, [], ◌∷◌, ◌++◌, ◌^◌, ◌<◌, length, map, Option, Some, None, Result, Ok, Err, refl, sym, ap, subst, ◌∙◌, append_assoc, arith}
 use Rattle.std.specs.Prelude.{◌==◌, IfOk, not, codes, slice_get, slice_index_or}
 use Rattle.std.specs.List.{AllByRecursion, flat_map, list_all}
 use Rattle.std.proofs.lemmas.Bool.{and_from, eqb-true}
@@ -8,6 +8,8 @@ use Rattle.std.proofs.lemmas.List.Folds.{list_all-append}
 use Rattle.gp_base.specs.declared.cell.Cell.{Cell}
 use Rattle.gp_base.specs.declared.cell.Cell.TheVariants as cell
 use Rattle.gp_base.specs.declared.refusal.Refusal.{Refusal}
+use Rattle.gp_base.specs.Names.{is_name}
+use Rattle.gp_base.specs.declared.table.Column as table
 use Rattle.gp_base.specs.declared.table.Table.{Table}
 use Rattle.gp_base.specs.Annotated.{Annotated, monomials, unannotated}
 use Rattle.gp_base.specs.Numbered.{newline}
@@ -25,7 +27,11 @@ use Rattle.gp_check.specs.Valid.{query_is_valid}
 use Rattle.gp_explain.specs.Explained.{answer_row}
 use Rattle.gp_explain.specs.ExplainedLines.{lines_from, text_lines}
 use Rattle.gp_explain.specs.LineTexts.{AreLines, is_line}
+use Rattle.gp_explain.proofs.ComposedRanges.{merged_at_range}
+use Rattle.gp_explain.proofs.ComposedShapes.{merged_at_shaped}
 use Rattle.gp_explain.proofs.MeaningLemmas.{merged_means}
+use Rattle.gp_explain.proofs.RangeLemmas.{program_spelled}
+use Rattle.gp_explain.specs.SmallLogs.{HasFewTables}
 use Rattle.gp_machine.specs.Entries.{Entry}
 use Rattle.gp_machine.specs.Points.{at_point}
 use Rattle.gp_machine.specs.Questions.{log_refusal}
@@ -35,6 +41,8 @@ use Rattle.gp_prov.specs.Encoding.{encoded, encoded_row}
 use Rattle.gp_reenact.specs.Programs.{merged_at}
 use Rattle.gp_sql.specs.Meaning.{rows_of}
 use Rattle.gp_sql.specs.NamedQueries.{program_query}
+use Rattle.gp_plantext.specs.Spellable.{is_spellable}
+use Rattle.gp_sql.specs.Spelled.{is_spelled}
 use Rattle.gp_sql.specs.Spelling.{expressions_text, query_text, with_text}
 use Rattle.gp_sql.specs.Sql.{With}
 use Rattle.gp_sql.specs.SqlCells.{sql_rows}
@@ -45,13 +53,15 @@ use Rattle.gp_versions.specs.declared.span.Span.{Span}
 use Rattle.gp_versions.specs.Spans.{rows_at, row_of, spans_at, holds_at}
 use Rattle.gp_dump.specs.Dumps.{Dump}
 use Rattle.gp_dump.specs.Rules.{WellFormed}
-use Rattle.gp_dump.specs.WholeDumps.{IsDump}
+use Rattle.gp_dump.specs.WholeDumps.{AreReadable, IsDump}
 use Rattle.gp_dump.proofs.LawLemmas.{whole-text}
-use Rattle.gp_ask.specs.Answerable.{question_is_valid}
+use Rattle.gp_ask.specs.Answerable.{has_few_items, question_is_valid}
 use Rattle.gp_ask.specs.Asking.{asked, table_spans}
 use Rattle.gp_ask.specs.Programs.{sql_lines, sql_text}
 use Rattle.gp_ask.specs.Questions.{AreQuestions, ReadQuestion}
 use Rattle.gp_ask.specs.SqlAnswers.{Asks, AsksLines, AsksQuestion, AsksState, LinesAsk, held_by}
+use Rattle.gp_ask.proofs.ColumnNames.{all-named}
+use Rattle.gp_ask.proofs.FewLemmas.{checked-few}
 use Rattle.gp_ask.proofs.ExplainedLemmas.{IsExplained, dump_explained, query_fits}
 use Rattle.gp_ask.proofs.ReadAnswers.{one-file}
 use Rattle.gp_ask.proofs.ReadLemmas.{read-valid, valid-parts}
@@ -157,19 +167,25 @@ rows-alone (element ∷ elements) = λ i. append-nil element.cells i ∷ rows-al
 pub record SqlLaws (entries : List Entry) : Type 0 where
   pub gives : (tables : List Table) (spans : ℕ → List Span) (program : PlainProgram) → AllSpansFit tables spans → is_typed tables program ≡ true
       → rows_of (version_tables tables spans) (program_query tables program) ≡ sql_rows (program_meaning (held_rows spans) program)
+  pub spelled : (tables : List Table) (program : PlainProgram) → list_all (λ (own : Table). list_all (λ (column : table.Column). is_name column.name) own.cols) tables ≡ true
+      → is_typed tables program ≡ true → is_spellable tables program ≡ true → length (with_text tables (program_query tables program)) < 2 ^ 63
+      → is_spelled tables (program_query tables program) ≡ true
   pub typed : (point : y.Point) (query : y.Query) (select : Select) → query_is_valid query ≡ true → checked_query (tables_in entries) query ≡ Ok select → log_refusal entries point ≡ None
       → is_typed (tables_in entries) (merged_at false entries point select) ≡ true
 
-module _ (entries : List Entry) (is : IsExplained entries) (laws : SqlLaws entries) where
+module _ (entries : List Entry) (is : IsExplained entries) (readable : AreReadable entries) (laws : SqlLaws entries) where
   abbrev tables : List Table
   tables = tables_in entries
 
-  select_asks : (point : y.Point) (select : Select) → select_fits tables select ≡ true → log_refusal entries point ≡ None
+  select_asks : (point : y.Point) (select : Select) → select_fits tables select ≡ true → HasFewTables select → log_refusal entries point ≡ None
       → is_typed tables (merged_at false entries point select) ≡ true → Asks entries point select (sql_text entries point select)
-  select_asks point select fits known typed =
-      let program : PlainProgram = merged_at false entries point select in record {
+  select_asks point select fits few known typed =
+      let program : PlainProgram = merged_at false entries point select in
+      let spellable : is_spellable tables program ≡ true =
+      program_spelled tables program (merged_at_shaped entries is.named.named is.fit false select fits point known) (merged_at_range entries is.small is.fit false select fits few point known) in record {
         query = program_query tables program;
-        spelled = refl;
+        is = refl;
+        spelled = λ short. laws.spelled tables program (all-named entries readable) typed spellable short;
         means = λ stored are.
             laws.gives tables (table_spans stored) program are.typed typed
             ∙ ap sql_rows
@@ -181,8 +197,8 @@ module _ (entries : List Entry) (is : IsExplained entries) (laws : SqlLaws entri
             ∙ rows-alone (answer monomials select (at_point monomials entries point (held_by stored))));
       }
 
-  state_asks : (point : y.Point) (query : y.Query) → query_is_valid query ≡ true → AsksState sql_lines entries point query
-  state_asks point query valid = go (log_refusal entries point) refl (checked_query tables query) refl
+  state_asks : (point : y.Point) (query : y.Query) → query_is_valid query ≡ true → has_few_items query ≡ true → AsksState sql_lines entries point query
+  state_asks point query valid few = go (log_refusal entries point) refl (checked_query tables query) refl
     where
       go : (refusal : Option Refusal) → log_refusal entries point ≡ refusal → (found : Result Select Refusal) → checked_query tables query ≡ found
           → IfOk (asked refusal found) (λ (select : Select). LinesAsk entries point select (sql_lines entries false point select))
@@ -191,12 +207,12 @@ module _ (entries : List Entry) (is : IsExplained entries) (laws : SqlLaws entri
       go None known (Ok select) e = (
         sql_text entries point select,
         query_lines tables (program_query tables (merged_at false entries point select)),
-        select_asks point select (query_fits tables query select is.valid valid e) known (laws.typed point query select valid e known),
+        select_asks point select (query_fits tables query select is.valid valid e) (checked-few tables query select None few e) known (laws.typed point query select valid e known),
       )
 
   question_asks : (own : y.Question) → question_is_valid own ≡ true → AsksQuestion sql_lines entries own
-  question_asks (y.ask y.rows point query) valid = let parts = valid-parts y.rows point query valid in state_asks point query parts.0
-  question_asks (y.ask (y.explain false) point query) valid = let parts = valid-parts (y.explain false) point query valid in state_asks point query parts.0
+  question_asks (y.ask y.rows point query) valid = let parts = valid-parts y.rows point query valid in state_asks point query parts.0 parts.1
+  question_asks (y.ask (y.explain false) point query) valid = let parts = valid-parts (y.explain false) point query valid in state_asks point query parts.0 parts.1
   question_asks own valid = tt
 
   line_asks : (text : List ℕ) → IfOk (question_of text) (AsksQuestion sql_lines entries)
@@ -214,4 +230,4 @@ pub questions_ask : (bytes file : List ℕ) (dump : Dump) (questions : List Read
     → AsksLines sql_lines dump.entries questions
 questions_ask bytes file dump questions formed are laws =
     let is : IsDump dump = (whole-text bytes dump formed).rules in
-    subst (AsksLines sql_lines dump.entries) (sym (one-file file questions are)) (lines_ask dump.entries (dump_explained dump is) laws (script_lines file))
+    subst (AsksLines sql_lines dump.entries) (sym (one-file file questions are)) (lines_ask dump.entries (dump_explained dump is) is.commands laws (script_lines file))

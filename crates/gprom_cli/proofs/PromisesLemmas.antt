@@ -19,6 +19,8 @@ use Rattle.gp_machine.specs.Replayed.{replayed_state}
 use Rattle.gp_machine.specs.State.{State, start}
 use Rattle.gp_plantext.specs.Spellable.{is_spellable}
 use Rattle.gp_plantext.specs.Spelling.{program_text}
+use Rattle.gp_sql.specs.Spelled.{HaveOwnNames, SpellsQuery}
+use Rattle.gp_sql.specs.Sql.{With}
 use Rattle.gp_replay.specs.Differences.{IsOfHistory, difference}
 use Rattle.gp_syntax.specs.Lines.{script_lines}
 use Rattle.gp_script.specs.History.{IsScript, ReadLine, has_refusal, last_state, outcome_of, replies_text, replies_to, state_along}
@@ -161,6 +163,7 @@ pub record DumpLaws : Type 0 where
       → LoadsAgain number (codes "line" ∷ titles) rows (csv_text (titled_records number (codes "line" ∷ titles) rows))
   pub programs : (tables : List Table) (program other : PlainProgram) → HaveDifferentNames tables → is_spellable tables program ≡ true → is_spellable tables other ≡ true
       → program_text tables program ≡ program_text tables other → program ≡ other
+  pub queries : (tables : List Table) (text : List ℕ) (query other : With) → HaveOwnNames tables → SpellsQuery tables query text → SpellsQuery tables other text → query ≡ other
   pub isolated : (lines : List Line) → IsIsolated (after monomials parameters start lines)
   pub lost : (lines : List Line) → LosesToFirst (after monomials parameters start lines)
   pub remade : (dump : Dump) → IsDump dump → (change : y.LogChange) (entries : List Entry) → changed_log parameters dump.entries change ≡ Ok entries
@@ -191,6 +194,7 @@ promised laws call has = record {
   stored = laws.stored;
   reloaded = laws.reloaded;
   programs = λ tables text program other different spells also. laws.programs tables program other different spells.spellable also.spellable (spells.is ∙ sym also.is);
+  queries = laws.queries;
   checked = λ bytes contents formed none.
       let history = laws.checked contents (dumps.whole-text bytes contents formed).rules none in
       (history, λ format question. ap (λ (own : Dump). answer_to (programs_in format) own question) history.is ∙ laws.held (programs_in format) history.lines question);

@@ -18,6 +18,8 @@ use Rattle.gp_syntax.specs.Lines.{script_lines}
 use Rattle.gp_dump.specs.Dumps.{Dump, dump_of}
 use Rattle.gp_dump.specs.Rules.{FirstFault, WellFormed}
 use Rattle.gp_plantext.specs.Spelling.{Spells}
+use Rattle.gp_sql.specs.Spelled.{HaveOwnNames, SpellsQuery}
+use Rattle.gp_sql.specs.Sql.{With}
 use Rattle.gp_log.specs.LogFacts.{tables_in}
 use Rattle.gp_log.specs.Parameters.{parameters}
 use Rattle.gp_machine.specs.Entries.{Entry}
@@ -78,9 +80,10 @@ pub record Promises (call : Call) : Type 0 where
   -- What `export` writes with names for rows under such titles is a sheet that loads again, with the number of the question in front of each row.
   pub reloaded : (number : ℕ) (titles : List (List ℕ)) (rows : List (List Cell)) → number < 2 ^ 63 → AreReloadable (codes "line" ∷ titles) rows
       → LoadsAgain number (codes "line" ∷ titles) rows (text_in Named number (Sheet (record { titles = codes "line" ∷ titles; rows = rows })))
-  -- A text spells one program, where no two tables have the same name, as in every log.
+  -- A text spells one program, and one query of SQL, where no two tables have the same name and no two columns of a table, as in every log.
   pub programs : (tables : List Table) (text : List ℕ) (program other : PlainProgram) → AllPairs (λ (name also : List ℕ). name ≢ also) (table_names tables)
       → Spells tables program text → Spells tables other text → program ≡ other
+  pub queries : (tables : List Table) (text : List ℕ) (query other : With) → HaveOwnNames tables → SpellsQuery tables query text → SpellsQuery tables other text → query ≡ other
   -- CHECK names a line of every well-formed dump (`difference`), unless it is that of a history, as the history machine takes lines: of some lines of a script.
   -- Then every question is answered as this history held it.
   pub checked : (bytes : List ℕ) (contents : Dump) → WellFormed bytes contents → difference contents ≡ None

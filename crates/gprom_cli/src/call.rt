@@ -15,6 +15,7 @@ use gp_ask::{
 use gp_io::{Shelf, Sink};
 use gp_load::exported_sheets_load_again;
 use gp_plantext::texts_are_read_again;
+use gp_sql::texts_spell_one_query;
 use std::alloc::Global;
 
 /// Does all that the program does: parses the arguments (those after the program's name), reads files from `shelf`, replaces the dump of
@@ -41,6 +42,7 @@ pub fn gprom<H: Shelf, K: Sink>(alloc: Global, args: &[String], shelf: &mut H, o
 {
     // What is promised of dumps, of the dumps of scripts, and of programs rests on these laws. The calls do nothing.
     texts_are_read_again();
+    texts_spell_one_query();
     scripts_have_well_formed_dumps();
     dumps_of_histories_are_known();
     programs_explain_their_questions();

@@ -8,5 +8,6 @@ returns c = λ bytes file dump questions formed are.
     let is : IsDump dump = (whole-text bytes dump formed).rules in
     questions_ask bytes file dump questions formed are (record {
       gives = c.queries_give_the_rows_of_programs.ensures.listed;
+      spelled = c.queries_of_programs_are_spelled.ensures;
       typed = c.well_formed_dumps_are_typed.ensures.programs dump is;
     })

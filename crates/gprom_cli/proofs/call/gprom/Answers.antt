@@ -31,6 +31,7 @@ returns g c =
       stored = c.row_versions_are_stored.ensures;
       reloaded = c.exported_sheets_load_again.ensures;
       programs = c.texts_are_read_again.ensures.unique;
+      queries = c.texts_spell_one_query.ensures;
       isolated = isolated.reached;
       lost = isolated.lost;
       remade = isolated.remade;
