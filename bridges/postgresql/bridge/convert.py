@@ -15,7 +15,7 @@ def convert(log, tables_file, out, rows=(), slot=None, default_level='read commi
     commits = decoding.read(slot, tables) if slot else []
     history = History(tables, default_level)
     transactions = history.read(csvlog.read(log, database))
-    left = [(0, reason) for reason in left] + history.left
+    left = [(0, reason) for reason in left] + history.left + list(csvlog.gaps(log))
     limit = place(tables, start, transactions, commits) if slot else place_by_times(transactions)
     made = script.Script(used(tables, start, commits, transactions))
     made.start(start)
@@ -86,8 +86,16 @@ def verdict(transaction, number, is_past):
         return (patch if transaction.commit is not None else ''), transaction.reason
     if uncovered:
         patch = 'one statement' if len(uncovered) == 1 else f'{len(uncovered)} statements'
-        return (patch if number else ''), f'log line {uncovered[0].line}: {uncovered[0].reason}'
+        return (patch if number else ''), reasons(uncovered)
     return '', ''
+
+
+def reasons(steps):
+    """Each reason once, with the first line of the log that has it. No reason hides another one."""
+    first = {}
+    for step in steps:
+        first.setdefault(step.reason, step.line)
+    return '; '.join(f'log line {line}: {reason}' for reason, line in first.items())
 
 
 def notes(transaction, number, patch, cover):

@@ -71,6 +71,16 @@ def rows(file):
             first = lines.line + 1
 
 
+def gaps(file):
+    """(line, what is missing) where records were taken out of a session: the server numbers those of each."""
+    last = {}
+    for line, fields in rows(file):
+        session, number = fields[5], int(fields[6])
+        if number != last.get(session, number - 1) + 1:
+            yield line, f'records of this session are missing: number {number} comes behind {last[session]}'
+        last[session] = number
+
+
 def read(file, database=None):
     """The records of one database, in the order of the log."""
     clock, databases, timed = Clock(), set(), set()

@@ -7,6 +7,7 @@ from dataclasses import dataclass, field
 
 HERE = os.path.dirname(os.path.dirname(os.path.abspath(__file__)))
 VERDICT = re.compile(r'transaction (\S+) \(log line (\d+), xid (\d*), ([a-z ]+)\): (same|not covered|differs)(?:: (.*))?')
+MISSING = 'records of this session are missing'         # in a line of OUT.left
 PATCHED = 'patched'                                     # in the reason where the rows were taken from the write-ahead log
 
 
@@ -44,11 +45,10 @@ class Judgement:
 
 def judge(window, gprom):
     """Converts and verifies a window. A failure is a line that says what is not as it has to be."""
-    convert(window)
+    left = convert(window)
     verdicts = verify(window, gprom)
-    found = Judgement(verdicts)
-    with open(window.path('out.left'), encoding='utf-8') as file:
-        found.narrowed = sum('narrowed' in line for line in file)
+    found = Judgement(verdicts, narrowed=sum('narrowed' in line for line in left))
+    found.failures += [line for line in left if MISSING in line]
     found.failures += [str(verdict) for verdict in verdicts if verdict.verdict == 'differs']
     times = collections.Counter(verdict.xid for verdict in verdicts)
     found.failures += [f'xid {xid} has {times[xid]} verdicts' for xid in commits_of(window) if times[xid] != 1]
@@ -56,10 +56,12 @@ def judge(window, gprom):
     return found
 
 
-def convert(window):
-    """Runs `convert` on the window, as a user would."""
+def convert(window, log='log.csv', out='out'):
+    """Runs `convert` on the window, as a user would. Gives the lines of OUT.left."""
     rows = [word for table in window.started for word in ('--rows', f'{table}={window.path(table)}.csv')]
-    call([f'{HERE}/convert', window.path('log.csv'), window.path('out'), *common(window), *rows, '--level', window.level], (0,))
+    call([f'{HERE}/convert', window.path(log), window.path(out), *common(window), *rows, '--level', window.level], (0,))
+    with open(window.path(f'{out}.left'), encoding='utf-8') as file:
+        return file.read().split('\n')[:-1]
 
 
 def verify(window, gprom, out='out'):

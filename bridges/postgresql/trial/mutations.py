@@ -1,15 +1,16 @@
-"""Scripts with one fault each, to see that `verify` is not blind.
+"""Scripts with one fault each, to see that `verify` is not blind, and logs that lack a record, to see that `convert` is not.
 
 In a script that `verify` found right, one statement of a covered transaction is dropped or one number of it is changed.
 A fault matters if it changes the rows of some version, which the dumps show; then `verify` has to find it.
 """
 import collections
+import csv
 import random
 import re
 import shutil
 from dataclasses import dataclass
 
-from .judge import verify
+from .judge import MISSING, convert, verify
 from .workload import check as check_workload
 
 NUMBER = re.compile(r"'(?:[^']|'')*'|(?<![\w.])(\d+)(?!\w)")     # a text, or a number that stands outside of texts
@@ -32,9 +33,11 @@ def check(window, found, gprom, count, seed, made):
     failures = check_workload(window, found)
     if found.failures or failures:
         return failures
-    mutations = mutate(window, found.verdicts, gprom, count, random.Random(seed))
+    chosen = random.Random(seed)
+    mutations = mutate(window, found.verdicts, gprom, count, chosen)
     made += mutations
-    return [f'line {mutation.line} as {mutation.text!r} is not found' for mutation in mutations if mutation.matters and not mutation.is_found]
+    failures = [f'line {mutation.line} as {mutation.text!r} is not found' for mutation in mutations if mutation.matters and not mutation.is_found]
+    return failures + without_a_record(window, chosen)
 
 
 def summary(made):
@@ -62,6 +65,18 @@ def mutate(window, verdicts, gprom, count, chosen):
         if len(found) == count:
             break
     return found
+
+
+def without_a_record(window, chosen):
+    """Takes a record out of the log, between others of its session. Gives a line if `convert` does not notice it."""
+    with open(window.path('log.csv'), newline='', encoding='utf-8') as file:
+        records = list(csv.reader(file))
+    sessions = [record[5] for record in records]
+    at = chosen.choice([at for at, session in enumerate(sessions) if session in sessions[:at] and session in sessions[at + 1:]])
+    with open(window.path('cut.csv'), 'w', newline='', encoding='utf-8') as file:
+        csv.writer(file).writerows(records[:at] + records[at + 1:])
+    noticed = any(MISSING in line for line in convert(window, 'cut.csv', 'cut'))
+    return [] if noticed else [f'that record {at + 1} of the log is missing is not noticed']
 
 
 def try_mutation(window, gprom, lines, at, text, right):
