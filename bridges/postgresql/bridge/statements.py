@@ -120,7 +120,7 @@ class Translator:
     def table(self, relation):
         table = self.tables.get(relation.relname)
         if table is None or relation.schemaname and table.schema and relation.schemaname != table.schema:
-            raise NotCovered(f'table {relation.relname} is not in the definitions')
+            raise NotCovered(f'{relation.relname} is no table of the definitions')
         return table
 
     def target(self, relation):
