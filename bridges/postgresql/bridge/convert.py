@@ -86,16 +86,8 @@ def verdict(transaction, number, is_past):
         return (patch if transaction.commit is not None else ''), transaction.reason
     if uncovered:
         patch = 'one statement' if len(uncovered) == 1 else f'{len(uncovered)} statements'
-        return (patch if number else ''), reasons(uncovered)
+        return (patch if number else ''), transaction.reasons()
     return '', ''
-
-
-def reasons(steps):
-    """Each reason once, with the first line of the log that has it. No reason hides another one."""
-    first = {}
-    for step in steps:
-        first.setdefault(step.reason, step.line)
-    return '; '.join(f'log line {line}: {reason}' for reason, line in first.items())
 
 
 def notes(transaction, number, patch, cover):

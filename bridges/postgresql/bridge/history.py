@@ -67,6 +67,13 @@ class Transaction:
         """The steps that gprom does not run as the server did."""
         return [step for step in self.steps if step.literals is not None or step.statement is None and not step.only_reads]
 
+    def reasons(self):
+        """Why gprom does not run all of it as the server did: each reason once, with the first line of the log that has it."""
+        first = {}
+        for step in self.uncovered():
+            first.setdefault(step.reason, step.line)
+        return '; '.join(f'log line {line}: {reason}' for reason, line in first.items())
+
     def writes(self):
         return [step for step in self.steps if step.writes]
 

@@ -126,8 +126,7 @@ class Settling:
             patched, found = self.patch_one_more(search, patched)
         if found is not None:
             return '' if self.set_places(search, patched, found) else LONG
-        uncovered = next((f'log line {step.line}: {step.reason}' for step in transaction.uncovered()), '')
-        return uncovered or (TWINS if search.twins else NO_PLACE)
+        return transaction.reasons() or (TWINS if search.twins else NO_PLACE)
 
     @staticmethod
     def places(search):
@@ -177,7 +176,6 @@ class Settling:
 
 def drop_uncovered(transaction):
     """Without row images nothing says what the server computed, or what a statement wrote."""
-    reasons = [f'log line {step.line}: {step.reason}' for step in transaction.uncovered()]
-    reasons += ['values that the server computed' for step in transaction.steps if step.statement and step.statement.has_holes()]
+    has_holes = any(step.statement and step.statement.has_holes() for step in transaction.steps)
+    transaction.reason = transaction.reason or transaction.reasons() or ('values that the server computed' if has_holes else '')
     transaction.steps = [step for step in transaction.steps if step.statement and not step.statement.has_holes()]
-    transaction.reason = transaction.reason or (reasons[0] if reasons else '')
