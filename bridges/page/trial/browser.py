@@ -95,9 +95,9 @@ class Browser:
         return result["result"].get("value")
 
     def settle(self) -> None:
-        """Waits until what changed is drawn. Without scripts there is nothing to wait for."""
+        """Waits until what changed is drawn, at most a second: a busy machine may draw nothing. Without scripts there is nothing to wait for."""
         if self._script:
-            self.ask("new Promise((done) => requestAnimationFrame(() => requestAnimationFrame(done)))")
+            self.ask("new Promise((done) => { requestAnimationFrame(() => requestAnimationFrame(done)); setTimeout(done, 1000); })")
 
     def press(self, *keys: str) -> None:
         for key in keys:
@@ -107,13 +107,14 @@ class Browser:
             self.call("Input.dispatchKeyEvent", type="keyUp", **event)
 
     def click(self, selector: str) -> None:
-        """A click of the mouse into the middle of an element."""
-        at = self.ask(
-            f"(() => {{ const it = document.querySelector({json.dumps(selector)}); it.scrollIntoView({{ block: 'center', inline: 'center' }});"
-            " const box = it.getBoundingClientRect(); return [box.x + box.width / 2, box.y + box.height / 2]; })()"
-        )
+        """A click of the mouse into the middle of an element, once it is drawn where it was scrolled to."""
+        element = f"document.querySelector({json.dumps(selector)})"
+        self.ask(f"{element}.scrollIntoView({{ block: 'center', inline: 'center' }})")
+        self.settle()
+        at = self.ask(f"(() => {{ const box = {element}.getBoundingClientRect(); return [box.x + box.width / 2, box.y + box.height / 2]; }})()")
         for kind in ("mousePressed", "mouseReleased"):
             self.call("Input.dispatchMouseEvent", type=kind, x=at[0], y=at[1], button="left", clickCount=1)
+        self.settle()
 
     def size(self, width: int, height: int) -> None:
         self.call("Emulation.setDeviceMetricsOverride", width=width, height=height, deviceScaleFactor=1, mobile=False)

@@ -4,6 +4,7 @@ from __future__ import annotations
 
 import json
 import re
+import time
 from collections.abc import Iterator
 from pathlib import Path
 
@@ -16,6 +17,8 @@ Faults = Iterator[tuple[str, str]]
 
 # The processor time in seconds that a page may take, and that its opening may take in the browser.
 MOST_MAKING, MOST_OPENING = 5.0, 2.0
+# The seconds after which what a click changes has to be there.
+MOST_WAITING = 10.0
 
 
 def seen(browser: Browser, selector: str) -> str:
@@ -28,11 +31,20 @@ def seen(browser: Browser, selector: str) -> str:
 
 
 def lacks(browser: Browser, *expected: tuple[str, str]) -> str:
+    """What the page lacks of these texts. What a click changes comes a little later, on a busy machine by seconds."""
+    until = time.monotonic() + MOST_WAITING
+    while fault := next(_lacking(browser, expected), ""):
+        if time.monotonic() > until:
+            return fault
+        time.sleep(0.1)
+    return ""
+
+
+def _lacking(browser: Browser, expected: tuple[tuple[str, str], ...]) -> Iterator[str]:
     for selector, text in expected:
         found = seen(browser, selector)
         if text not in found:
-            return f"{selector} lacks {text!r}: {found[:600]!r}"
-    return ""
+            yield f"{selector} lacks {text!r}: {found[:600]!r}"
 
 
 def noise(browser: Browser) -> str:
