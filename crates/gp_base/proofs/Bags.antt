@@ -91,7 +91,7 @@ as_long (first s) = ap suc (as_long s)
 as_long swapped = refl
 as_long (through s t) = as_long s ∙ as_long t
 
-or_swapped : (b c d : Bool) → (b || (c || d)) ≡ (c || (b || d))
+pub or_swapped : (b c d : Bool) → (b || (c || d)) ≡ (c || (b || d))
 or_swapped true true d = refl
 or_swapped true false d = refl
 or_swapped false true d = refl

@@ -9,6 +9,7 @@ pub mod MonomialLemmas
 pub mod OrderLemmas
 pub mod Permutations
 pub mod ProductLaws
+pub mod SaturatingLemmas
 pub mod SmallLemmas
 pub mod TextLemmas
 pub mod UserTextLemmas

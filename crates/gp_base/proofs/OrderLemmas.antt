@@ -1,17 +1,15 @@
 -- Lemmas of sorting: a sorted permutation of a list is its insertion sort, in any total order whose ties are equal. The order of rows is
 -- such an order.
-use Rattle.std.proofs.Common.{◌≡◌, ℕ, Bool, zero, suc, ◌+◌, ◌<◌, ℤ, pos, true, false, cond, List, [], ◌∷◌, length, get_or, refl, sym, ap, ◌∙◌, subst, arith, add-one}
+use Rattle.std.proofs.Common.{◌≡◌, ℕ, zero, suc, ◌+◌, ◌<◌, true, false, cond, List, [], ◌∷◌, length, get_or, refl, sym, ap, ◌∙◌, subst, arith, add-one}
 use Rattle.std.specs.declared.cmp.Ordering.{Ordering}
 use Rattle.std.specs.declared.cmp.Ordering.TheVariants.{Less, Equal, Greater}
 use Rattle.std.specs.List.{sum_by}
 use Rattle.std.specs.List.Sorted.{IsPermutation, IsSorted}
-use Rattle.std.specs.Ordering.{is_le, is_gt, is_lt, is_eq, ordering_reverse, ordering_then, nat_cmp, int_cmp, bool_cmp, on, then_cmp}
-use Rattle.std.specs.Cmp.{IsTotalOrder, bool_cmp_total}
-use Rattle.std.specs.Cmp.Lexicographic.{slice_cmp}
-use Rattle.std.specs.FinMap.{slice_cmp-IsAntisymmetric}
+use Rattle.std.specs.Ordering.{is_le, is_gt, is_lt, is_eq, ordering_reverse}
+use Rattle.std.specs.Cmp.{IsTotalOrder}
 use Rattle.std.proofs.lemmas.Bool.{false≢true}
-use Rattle.std.proofs.lemmas.Cmp.{upto, tied_itself, on_total, then_total, lists_total, nat_cmp_total, int_cmp_total, nat_list_cmp_total}
-use Rattle.std.proofs.lemmas.Map.Lookups.{CmpEqualImpliesEq, exact_signed, exact_bytes}
+use Rattle.std.proofs.lemmas.Cmp.{upto, tied_itself}
+use Rattle.std.proofs.lemmas.Map.Lookups.{CmpEqualImpliesEq}
 use Rattle.std.proofs.lemmas.List.Sums.{sum_by-cons}
 use Rattle.std.proofs.lemmas.List.Sorted.{sum_by-IsPermutation, IsPermutation-refl, IsPermutation-cons, IsPermutation-sym, IsPermutation-trans, IsPermutation-middle}
 use Rattle.gp_base.specs.declared.cell.Cell.{Cell}
@@ -21,24 +19,24 @@ use Rattle.gp_base.specs.RowOrder.{row_cmp_total, exact_rows}
 -- ---- results of a comparison
 
 -- less or equal, and not greater
-gt_from_le : (o : Ordering) → is_le o ≡ true → is_gt o ≡ false
+pub gt_from_le : (o : Ordering) → is_le o ≡ true → is_gt o ≡ false
 gt_from_le Less e = refl
 gt_from_le Equal e = refl
 gt_from_le Greater e = sym e
 
-le_from_gt : (o : Ordering) → is_gt o ≡ false → is_le o ≡ true
+pub le_from_gt : (o : Ordering) → is_gt o ≡ false → is_le o ≡ true
 le_from_gt Less e = refl
 le_from_gt Equal e = refl
 le_from_gt Greater e = sym e
 
 -- of two items one is less than or equal to the other
-le_turned : (o : Ordering) → is_le o ≡ false → is_le (ordering_reverse o) ≡ true
+pub le_turned : (o : Ordering) → is_le o ≡ false → is_le (ordering_reverse o) ≡ true
 le_turned Less e = sym e
 le_turned Equal e = refl
 le_turned Greater e = refl
 
 -- where the second is not less than the first, the first is less than or equal to the second
-le_from_lt_turned : (o : Ordering) → is_lt o ≡ false → is_le (ordering_reverse o) ≡ true
+pub le_from_lt_turned : (o : Ordering) → is_lt o ≡ false → is_le (ordering_reverse o) ≡ true
 le_from_lt_turned Less e = sym e
 le_from_lt_turned Equal e = refl
 le_from_lt_turned Greater e = refl

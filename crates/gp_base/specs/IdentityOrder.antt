@@ -1,5 +1,5 @@
 -- Machinery: the order of identities is total, and ties are between equal identities.
-use Rattle.std.specs.Prelude.{◌≡◌, ℕ, List, [], ◌∷◌, ◌++◌, refl}
+use Rattle.std.specs.Prelude.{◌≡◌, ℕ, List, [], ◌++◌, refl}
 use Rattle.std.proofs.Common.{ap, sym, ◌∙◌, subst, append_assoc, append-nil}
 use Rattle.std.specs.Ordering.{nat_cmp, on, ordering_then}
 use Rattle.std.specs.declared.cmp.Ordering.{Ordering}
@@ -15,10 +15,6 @@ then_through : (o p q : Ordering) → ordering_then (ordering_then o p) q ≡ or
 then_through Less p q = refl
 then_through Equal p q = refl
 then_through Greater p q = refl
-
--- one number in front of each list
-numbers_then : (t u : ℕ) (xs ys : List ℕ) → slice_cmp nat_cmp (t ∷ xs) (u ∷ ys) ≡ ordering_then (nat_cmp t u) (slice_cmp nat_cmp xs ys)
-numbers_then t u xs ys = refl
 
 -- what follows two codes decides only where the identities tie
 mutual

@@ -21,4 +21,5 @@ pub mod CatalogForms
 pub mod DirectWriting
 pub mod UserCells
 pub mod Digits
+pub mod Saturating
 pub mod Leaves

@@ -5,7 +5,7 @@
 //! [`RowId`] is the identity of a row, [`Stored`] a row with its identity, and a [`Monomial`] of [`Token`]s the provenance
 //! of a row. [`sort_rows`] sorts rows, [`write_row`] prints one, and [`write_joined`] prints the items of a list in any
 //! [`TextFormat`]. [`Refusal`] is the reason why a line of a script is refused, [`NoMemory`] the error of calls that
-//! allocate. [`rows_text`] and [`refused_text`] print what answers a line. The functions of `laws.rt`, as [`sorting_is_unique`], are laws of the definitions in `specs/`, which the
+//! allocate, and [`Stop`] that of calls that may be refused. [`rows_text`] and [`refused_text`] print what answers a line. The functions of `laws.rt`, as [`sorting_is_unique`], are laws of the definitions in `specs/`, which the
 //! contracts cite.
 //!
 //! ```text
@@ -16,8 +16,10 @@
 //! ```
 #![tactic(auto)]
 
+mod bytes;
 mod catalog;
 mod cell;
+mod digits;
 mod display;
 mod error;
 mod join;
@@ -31,6 +33,7 @@ mod row;
 mod row_id;
 mod sequence;
 mod sort;
+mod stop;
 mod stored;
 mod table;
 mod text;
@@ -38,6 +41,7 @@ mod token;
 
 pub use catalog::{Catalog, MAX_TABLES};
 pub use cell::{Cell, CellRef};
+pub use digits::digits_number;
 pub use display::{CellFormat, write_id, write_monomial, write_row};
 pub use error::{AddStop, NoMemory};
 pub use join::{TextFormat, append_all, text_of_pieces, write_joined};
@@ -54,7 +58,8 @@ pub use row::Row;
 pub use row_id::{MAX_NODES, RowId};
 pub use sequence::Sequence;
 pub use sort::sort_rows;
+pub use stop::Stop;
 pub use stored::Stored;
 pub use table::{Column, Kind, Table};
-pub use text::{MAX_TEXT_LENGTH, Text, is_user_text};
+pub use text::{MAX_TEXT_LENGTH, Text, is_user_text, is_utf8};
 pub use token::Token;

@@ -1,4 +1,4 @@
-//! The limits that a script can pass, and those of tables and answers.
+//! The limits that a script or a question can pass, and those of tables and answers.
 
 /// A table has at most this many rows after an INSERT.
 pub const MAX_TABLE_ROWS: usize = 10_000;
@@ -26,6 +26,8 @@ pub enum Limit {
     Nodes,
     /// `depth`: the open brackets and CASEs of a line, and the levels of a term.
     Depth,
+    /// `changes`: the changes of a WHATIF.
+    Changes,
     /// `transactions`: the transactions of a script.
     Transactions,
     /// `statements`: the statements of a script.

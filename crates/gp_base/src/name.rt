@@ -10,8 +10,8 @@ ghost use Rattle.std.specs.Cmp.Rules.{hashing};
 ghost use Rattle.std.proofs.Common.{rules};
 ghost use Rattle.gp_base.specs.Names.{is_name, is_name_byte, is_lower_letter, is_reserved};
 
+use crate::bytes::Bytes;
 use crate::error::NoMemory;
-use crate::sequence::Sequence;
 use std::alloc::{AllocError, Global};
 use std::hash::{Hash, Hasher};
 use std::marker::Model;
@@ -75,7 +75,7 @@ pub fn is_name(bytes: &[u8]) -> bool
 /// The name of a table or a column. Each value satisfies [`is_name`], so callers need not check it again.
 #[derive(Drop)]
 pub struct Name {
-    bytes: Sequence<u8>,
+    bytes: Bytes,
 }
 
 impl Model for Name {
@@ -98,7 +98,7 @@ impl Name {
         ensures { IfOk result (λ name. name ≡ bytes.now) }
     {
         Ok(Name {
-            bytes: Sequence::from_slice(alloc, bytes)?,
+            bytes: Bytes::from_slice(alloc, bytes)?,
         })
     }
 

@@ -180,6 +180,7 @@ fn limit_text(limit: Limit) -> &'static [u8]
         Limit::Values => b"values",
         Limit::Nodes => b"nodes",
         Limit::Depth => b"depth",
+        Limit::Changes => b"changes",
         Limit::Transactions => b"transactions",
         Limit::Statements => b"statements",
         Limit::Steps => b"steps",

@@ -3,12 +3,12 @@
 ghost use Rattle.std.specs.Prelude.{◌≡◌, ◌<◌, ◌≤◌, IfSome, MatchOption};
 ghost use Rattle.std.specs.Ordering.{eq_by_cmp, as_partial_cmp};
 ghost use Rattle.std.specs.Cmp.{eq_by_cmp_equiv, partial_equiv_from_equiv, po};
-ghost use Rattle.gp_base.specs.Identities.{identity, identity_cmp, nodes, nodes_in, sources_cmp};
+ghost use Rattle.gp_base.specs.Identities.{identity, identity_cmp, no_sources, nodes, nodes_in, sources_cmp};
 ghost use Rattle.gp_base.specs.IdentityParts.{identity_statement, identity_transaction};
 ghost use Rattle.gp_base.specs.IdentityForms.{AreIdentities, IsIdentity, number_of, sources_in, sources_of};
 ghost use Rattle.gp_base.specs.IdentityOrder.{identity_cmp_total};
 
-use std::alloc::AllocError;
+use std::alloc::{AllocError, Global};
 use std::cmp::Ordering;
 use std::marker::Model;
 
@@ -81,6 +81,16 @@ impl RowId {
             node_count,
             sources,
         })
+    }
+
+    /// The identity of row n of a VALUES list, which is made of no other row.
+    pub fn given(alloc: Global, t: u32, k: u32, n: u32) -> RowId
+        ensures { result ≡ identity t k n no_sources }
+    {
+        match RowId::new(t, k, n, Vec::new(alloc)) {
+            Some(id) => id,
+            None => unreachable!(),
+        }
     }
 
     /// The transaction that made the row, from 1.

@@ -1,7 +1,6 @@
 use Rattle.std.proofs.Common.{◌≡◌, ◌≤◌, ◌∙◌, ap, sym, arith, rules, true}
-use Rattle.std.proofs.lemmas.Grind.{common_steps}
 use Rattle.gp_base.specs.Tokens.{greatest_count}
-use Rattle.gp_base.specs.MonomialForms.{IsMonomial, IsToken, follows}
+use Rattle.gp_base.specs.MonomialForms.{IsToken, follows}
 use Rattle.gp_base.proofs.FollowingLemmas.{IsMonomial_push}
 use Rattle.gp_base.proofs.monomial.Monomial.push.Goals as goal
 
