@@ -15,7 +15,7 @@ use Rattle.gp_base.proofs.SmallLemmas.{all_weaker, left_true, length-map, right_
 
 -- a weaker test of each item
 
-expr-simple : (width : ℕ) (e : Expr) → expr_fits width e ≡ true → is_simple e ≡ true
+pub expr-simple : (width : ℕ) (e : Expr) → expr_fits width e ≡ true → is_simple e ≡ true
 expr-simple width e fits = left_true (is_simple e) (all_leaves (is_column width) is_user_cell e) fits
 
 where-simple : (width : ℕ) (c : Option Cond) → optional_cond_fits width c ≡ true → where_is_simple c ≡ true

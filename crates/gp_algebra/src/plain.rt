@@ -1,6 +1,10 @@
 //! The plain algebra: queries over rows of cells. Tables are numbered by their places in the catalogue, from
 //! 0, and columns from 1.
 
+ghost use Rattle.std.specs.Prelude.{◌≡◌};
+ghost use Rattle.gp_algebra.specs.Plain.{is_insert};
+ghost use Rattle.gp_algebra.specs.PlainViews.{query_view};
+
 use gp_base::{Row, Sequence};
 use gp_expr::{Cond, Expr};
 
@@ -65,6 +69,18 @@ pub enum PQuery {
         /// The rows of the version before its commit.
         later: Box<PQuery>,
     },
+}
+
+impl PQuery {
+    /// Whether it is the query of an INSERT step.
+    pub fn is_insert(&self) -> bool
+        ensures { result ≡ is_insert (query_view self.now) }
+    {
+        match self {
+            PQuery::Union { .. } => true,
+            _ => false,
+        }
+    }
 }
 
 /// A table in a version.

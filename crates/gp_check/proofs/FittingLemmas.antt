@@ -30,7 +30,7 @@ use Rattle.gp_check.specs.Meaning.{column_expr, expr_of, cond_of, where_of, expr
 use Rattle.gp_check.specs.Valid.{is_valid, tables_are_valid, set_is_valid, term_is_valid, condition_is_valid, items_are_valid, block_is_valid, query_is_valid, table_is_valid}
 use Rattle.gp_check.specs.Checking.{refused_by, checked, checked_query}
 use Rattle.gp_check.specs.Views.{Checks}
-use Rattle.gp_check.specs.declared.error.CheckStop.{CheckStop}
+use Rattle.gp_base.specs.declared.stop.Stop.{Stop}
 use Rattle.gp_algebra.specs.declared.statement.Select.{Select}
 use Rattle.gp_algebra.specs.declared.statement.Stmt.{Stmt}
 use Rattle.gp_algebra.specs.Views.{select_view, statement_view}
@@ -46,22 +46,12 @@ pub holds_if : (holds : Bool) (refusal : Refusal) → unless holds refusal ≡ N
 holds_if true refusal none = refl
 holds_if false refusal none = cc
 
-pub all_of_none : {A : Type 0} (fault : A → Option Refusal) (test : A → Bool) → ((x : A) → fault x ≡ None → test x ≡ true)
-    → (xs : List A) → first_fault fault xs ≡ None → list_all test xs ≡ true
-all_of_none fault test holds [] none = refl
-all_of_none fault test holds (x ∷ xs) none =
-    let n = none_of (fault x) (first_fault fault xs) none in and_from _ _ (holds x n.0) (all_of_none fault test holds xs n.1)
-
 pub all_of_two : {A : Type 0} (one other test : A → Bool) → ((x : A) → one x ≡ true → other x ≡ true → test x ≡ true)
     → (xs : List A) → list_all one xs ≡ true → list_all other xs ≡ true → list_all test xs ≡ true
 all_of_two one other test holds [] a b = refl
 all_of_two one other test holds (x ∷ xs) a b =
     let m = and_parts (one x) (list_all one xs) a in let n = and_parts (other x) (list_all other xs) b in
     and_from _ _ (holds x m.0 n.0) (all_of_two one other test holds xs m.1 n.1)
-
-pub all_mapped : {A B : Type 0} (test : B → Bool) (f : A → B) (xs : List A) → list_all (λ x. test (f x)) xs ≡ true → list_all test (map f xs) ≡ true
-all_mapped test f [] all = refl
-all_mapped test f (x ∷ xs) all = let n = and_parts (test (f x)) _ all in and_from _ _ n.0 (all_mapped test f xs n.1)
 
 -- ---- tables
 
@@ -87,9 +77,6 @@ width_known tables name none = by (place_of name tables) refl (holds_if _ _ none
     by (Some i) at some =
         ap (λ o. width_of tables (unwrap_or o 0)) at ∙ of_table (slice_get tables i)
         ∙ sym (ap (λ o. length (option_map_or (λ (t : Table). t.cols) (option_and_then (slice_get tables) o) [])) at)
-
-item_fault : List Table → Item → Option Refusal
-item_fault tables item = table_fault tables item.table
 
 -- the columns of a FROM whose tables are known are those of its tables side by side
 pub joined : (tables : List Table) (before : ℕ) (items : List Item) → first_fault (λ (item : Item). table_fault tables item.table) items ≡ None
@@ -439,7 +426,7 @@ pub accepted : {A : Type 0} (fault : Option Refusal) (meaning value : A) → ref
 accepted None meaning value is = (refl, ap (λ r. result_unwrap_or r meaning) is)
 accepted (Some refusal) meaning value is = cc
 
-pub statement_fits_if_checked : (tables : List Table) (command : Command) → is_statement command ≡ true → (result : Result Stmt CheckStop)
+pub statement_fits_if_checked : (tables : List Table) (command : Command) → is_statement command ≡ true → (result : Result Stmt Stop)
     → Checks statement_view result (checked tables command)
     → IfOk result (λ stmt. tables_are_valid tables ≡ true → is_valid command ≡ true → statement_fits tables (statement_view stmt) ≡ true)
 statement_fits_if_checked tables command statement (Ok stmt) is = λ columns valid.
@@ -447,7 +434,7 @@ statement_fits_if_checked tables command statement (Ok stmt) is = λ columns val
     subst (λ s. statement_fits tables s ≡ true) a.1 (fits tables command columns statement valid a.0)
 statement_fits_if_checked tables command statement (Err stop) is = tt
 
-pub select_fits_if_checked : (tables : List Table) (query : Query) (result : Result Select CheckStop)
+pub select_fits_if_checked : (tables : List Table) (query : Query) (result : Result Select Stop)
     → Checks select_view result (checked_query tables query)
     → IfOk result (λ select. tables_are_valid tables ≡ true → query_is_valid query ≡ true → select_fits tables (select_view select) ≡ true)
 select_fits_if_checked tables query (Ok select) is = λ columns valid.

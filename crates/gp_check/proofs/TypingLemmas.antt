@@ -8,7 +8,7 @@ use Rattle.gp_check.specs.declared.types.TermType.TheVariants.{Null, Int, Text, 
 use Rattle.gp_check.specs.declared.place.Resolution.{Resolution}
 use Rattle.gp_check.specs.declared.place.Resolution.TheVariants.{Absent, Found, Ambiguous}
 use Rattle.gp_check.specs.Scopes.{Scope, resolution}
-use Rattle.gp_check.specs.Typing.{kind_type, is_value, is_number, agrees, common_type, Operation, arithmetic, comparison, connective, operation, typed_if, is_condition, operand_passes, operands_agree, operation_type, choice_type, column_type, type_of}
+use Rattle.gp_check.specs.Typing.{kind_type, is_value, is_number, agrees, Operation, arithmetic, comparison, connective, operation, typed_if, is_condition, operand_passes, operands_agree, operation_type, choice_type, column_type, type_of}
 use Rattle.gp_check.specs.TypingRules as t
 use Rattle.gp_check.specs.TypingRules.{HasType, TypesAre}
 use Rattle.std.proofs.lemmas.Option.{same_Some}

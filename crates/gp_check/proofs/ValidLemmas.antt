@@ -25,14 +25,14 @@ use Rattle.gp_lexer.proofs.ProperLemmas.{lexemes-proper}
 use Rattle.gp_lexer.proofs.Utf8Lemmas.{texts-utf8}
 use Rattle.gp_grammar.specs.declared.limits.TheConstants.{MAX_BRANCHES, MAX_VALUES}
 use Rattle.gp_grammar.specs.Syntax as y
-use Rattle.gp_grammar.specs.Syntax.{Lexemes, Bytes, Term, SetTerm, Item, Items, Block, Query, Command, ScriptLine, How, Point, LogChange, Side, Question}
+use Rattle.gp_grammar.specs.Syntax.{Lexemes, Bytes, Term, Query, Command, ScriptLine, LogChange, Side, Question}
 use Rattle.gp_grammar.specs.Grammar as t
 use Rattle.gp_grammar.specs.Grammar.{Phrase, Derives, IsTerm}
 use Rattle.gp_grammar.specs.CommandGrammar as g
-use Rattle.gp_grammar.specs.CommandGrammar.{IsList, comma, union_all, IsColumn, IsLiteral, IsTuple, IsItem, IsItems, IsWhere, IsBlock, IsQuery, IsSetTerm, IsCommand, Closed, IsSessionCommand, IsScriptLine}
+use Rattle.gp_grammar.specs.CommandGrammar.{IsList, comma, union_all, IsLiteral, IsTuple, IsItems, IsWhere, IsBlock, IsQuery, IsSetTerm, IsCommand, Closed, IsSessionCommand, IsScriptLine}
 use Rattle.gp_grammar.specs.QuestionGrammar as q
-use Rattle.gp_grammar.specs.QuestionGrammar.{IsAsk, IsChange, IsSide, IsOpenQuestion, IsQuestion}
-use Rattle.gp_grammar.specs.Limits.{Shape, passed_limit, query_shape, command_shape, line_shape, change_shape, side_shape, both, question_shape}
+use Rattle.gp_grammar.specs.QuestionGrammar.{IsChange, IsChanges, IsSide, IsOpenQuestion, IsQuestion}
+use Rattle.gp_grammar.specs.Limits.{Shape, passed_limit, query_shape, command_shape, line_shape, change_shape, both, shape_of_count, commands_shape, changes_shape, side_shape, question_shape}
 use Rattle.gp_grammar.specs.LineReading.{HasLexemes, ReadsText, ReadsLine}
 use Rattle.gp_grammar.specs.Reading.{command_of, script_line_of, question_of}
 use Rattle.gp_grammar.specs.CommandParsing.{command, script_line}
@@ -43,7 +43,7 @@ use Rattle.gp_grammar.proofs.LineLaws.{texts-read, lines-read}
 use Rattle.gp_grammar.proofs.ParserLaws.{lawful-command, lawful-line, lawful-question}
 use Rattle.gp_grammar.proofs.ShapeLemmas.{first_limit, of_shape, commands-fair, lines-fair, questions-fair}
 use Rattle.gp_algebra.specs.Fitting.{is_countable}
-use Rattle.gp_check.specs.Valid.{term_is_valid, condition_is_valid, items_are_valid, block_is_valid, query_is_valid, set_is_valid, is_valid, change_is_valid, side_is_valid, question_is_valid, table_is_valid, tables_are_valid}
+use Rattle.gp_check.specs.Valid.{term_is_valid, condition_is_valid, items_are_valid, block_is_valid, query_is_valid, set_is_valid, is_valid, change_is_valid, changes_are_valid, side_is_valid, question_is_valid, table_is_valid, tables_are_valid}
 
 -- ---- the lexemes of a text
 
@@ -144,16 +144,16 @@ list-countable {xs = xs} i most small e = and_from _ _ (list-nonempty i) (few (l
 
 -- ---- limits
 
-none-passed : (c f b v n d : Bool) → first_limit c f b v n d ≡ None → (b ≡ false) × (v ≡ false)
-none-passed true f b v n d e = cc
-none-passed false true b v n d e = cc
-none-passed false false true v n d e = cc
-none-passed false false false true n d e = cc
-none-passed false false false false n d e = (refl, refl)
+none-passed : (c f b v n d k : Bool) → first_limit c f b v n d k ≡ None → (b ≡ false) × (v ≡ false)
+none-passed true f b v n d k e = cc
+none-passed false true b v n d k e = cc
+none-passed false false true v n d k e = cc
+none-passed false false false true n d k e = cc
+none-passed false false false false n d k e = (refl, refl)
 
 -- the blocks and the tuples are within their limits
 within : (shape : Shape) → passed_limit shape ≡ None → (ltb MAX_BRANCHES shape.branches ≡ false) × (ltb MAX_VALUES shape.values ≡ false)
-within shape none = none-passed _ _ _ _ _ _ (sym (of_shape shape) ∙ none)
+within shape none = none-passed _ _ _ _ _ _ _ (sym (of_shape shape) ∙ none)
 
 -- ---- commands
 
@@ -209,28 +209,56 @@ command-valid _ _ (g.select a x i) h none = query-valid a x i h none
 line-valid : (a : Lexemes) (x : ScriptLine) → IsSessionCommand a x → AreOfText a → passed_limit (line_shape x) ≡ None → is_valid x.command ≡ true
 line-valid _ _ (g.in_session name session a x e i) h none = command-valid a x i h.1.1 none
 
--- the command of a change, and what is asked behind it
+-- the commands of changes
 
 change-valid : (a : Lexemes) (x : LogChange) → IsChange a x → AreOfText a → passed_limit (change_shape x) ≡ None → change_is_valid x ≡ true
 change-valid _ _ (q.drop t k) h none = refl
+change-valid _ _ (q.drop_all t) h none = refl
 change-valid _ _ (q.replace t k a x i) h none = command-valid a x i.command (inner a h.1.1.1.1) none
 change-valid _ _ (q.add t a x i) h none = command-valid a x i.command (inner a h.1.1.1) none
 
-ask-valid : (a : Lexemes) (how : How) (state : Point) (query : Query) → IsAsk a how state query → AreOfText a → passed_limit (query_shape query) ≡ None → query_is_valid query ≡ true
-ask-valid _ how state query (q.asked a b c _ _ _ i j k) h none = query-valid c query k (second b c (second a (b ++ c) h)) none
+-- changes one by one
+AreWithin : List LogChange → Type 0
+AreWithin = AllByRecursion (λ change. passed_limit (change_shape change) ≡ None)
 
--- the change of a side
+each-within : (xs : List LogChange) → passed_limit (commands_shape xs) ≡ None → AreWithin xs
+unfolding AreWithin
+each-within [] none = tt
+each-within (x ∷ xs) none =
+    let w : (passed_limit (change_shape x) ≡ None) × (passed_limit (commands_shape xs) ≡ None) = both-within (change_shape x) (commands_shape xs) none in
+    (w.0, each-within xs w.1)
+
+last-within : (xs : List LogChange) (x : LogChange) → AreWithin (xs ++ x ∷ []) → AreWithin xs × (passed_limit (change_shape x) ≡ None)
+unfolding AreWithin
+last-within [] x h = (tt, h.0)
+last-within (z ∷ xs) x h = let w : AreWithin xs × (passed_limit (change_shape x) ≡ None) = last-within xs x h.1 in ((h.0, w.0), w.1)
+
+each-valid : {a : Lexemes} {xs : List LogChange} → IsChanges a xs → AreOfText a → AreWithin xs → changes_are_valid xs ≡ true
+unfolding AreWithin
+each-valid (g.one a x i) h w = and_from _ _ (change-valid a x i h w.0) refl
+each-valid (g.more a b xs x i j) h w =
+    let own : AreWithin xs × (passed_limit (change_shape x) ≡ None) = last-within xs x w in
+    list_all-append change_is_valid xs (x ∷ [])
+    ∙ and_from _ _ (each-valid i (first a (comma ++ b) h) own.0) (and_from _ _ (change-valid b x j (second a (comma ++ b) h).1 own.1) refl)
+
+changes-valid : (a : Lexemes) (xs : List LogChange) → IsChanges a xs → AreOfText a → passed_limit (changes_shape xs) ≡ None → changes_are_valid xs ≡ true
+changes-valid a xs i h none = each-valid i h (each-within xs (both-within (shape_of_count (length xs)) (commands_shape xs) none).1)
+
+-- the changes of a side
 side-valid : (a : Lexemes) (x : Side) → IsSide a x → AreOfText a → passed_limit (side_shape x) ≡ None → side_is_valid x ≡ true
-side-valid _ _ (q.as_is a kept i) h none = refl
-side-valid _ _ (q.changed a b change kept i j) h none = change-valid a change i (first a (Word (codes "of") ∷ b) h.1) none
+side-valid _ _ (q.as_is a subject i) h none = refl
+side-valid _ _ (q.changed a b changes subject i j) h none = changes-valid a changes i (first a (Word (codes "of") ∷ b) h.1) none
 
 question-valid : (a : Lexemes) (x : Question) → IsOpenQuestion a x → AreOfText a → passed_limit (question_shape x) ≡ None → question_is_valid x ≡ true
 question-valid _ _ q.transactions h none = refl
 question-valid _ _ (q.log n) h none = refl
 question-valid _ _ (q.versions table) h none = refl
-question-valid _ _ (q.saw t k a query i) h none = query-valid a query i h.1.1.1.1 none
 question-valid _ _ (q.changes t k) h none = refl
 question-valid _ _ (q.commit_changes t) h none = refl
+question-valid _ _ (q.conflicts t) h none = refl
+question-valid _ _ (q.history table a cond i) h none = condition-valid a cond i h.1.1.1
+question-valid _ _ (q.when a query i) h none = query-valid a query i h.1 none
+question-valid _ _ q.serial h none = refl
 question-valid _ _ q.check h none = refl
 question-valid _ _ (q.diff a b c x z query i j k) h none =
     let within : (passed_limit (both (side_shape x) (side_shape z)) ≡ None) × (passed_limit (query_shape query) ≡ None) = both-within (both (side_shape x) (side_shape z)) (query_shape query) none in
@@ -238,12 +266,13 @@ question-valid _ _ (q.diff a b c x z query i j k) h none =
     let behind : AreOfText (b ++ c) = (second a (Word (codes "to") ∷ (b ++ c)) h.1).1 in
     and_from _ _ (and_from _ _ (side-valid a x i (first a (Word (codes "to") ∷ (b ++ c)) h.1) sides.0) (side-valid b z j (first b c behind) sides.1))
     (query-valid c query k (second b c behind) within.1)
-question-valid _ _ (q.causes a b kept query i j) h none = query-valid b query j (second a b h.1.1) none
-question-valid _ _ (q.ask a how state query i) h none = ask-valid a how state query i h none
-question-valid _ _ (q.what_if a b change how state query i j) h none =
-    let within : (passed_limit (change_shape change) ≡ None) × (passed_limit (query_shape query) ≡ None) = both-within (change_shape change) (query_shape query) none in
-    and_from _ _ (change-valid a change i (first a (Word (codes "of") ∷ b) h.1) within.0)
-    (ask-valid b how state query j (second a (Word (codes "of") ∷ b) h.1).1 within.1)
+question-valid _ _ (q.causes a b subject query i j) h none = query-valid b query j (second a b h.1.1) none
+question-valid _ _ (q.ask a b subject query i j) h none = query-valid b query j (second a b h) none
+question-valid _ _ (q.what_if a b c changes subject query i j k) h none =
+    let within : (passed_limit (changes_shape changes) ≡ None) × (passed_limit (query_shape query) ≡ None) = both-within (changes_shape changes) (query_shape query) none in
+    let behind : AreOfText (b ++ c) = (second a (Word (codes "of") ∷ (b ++ c)) h.1).1 in
+    and_from _ _ (changes-valid a changes i (first a (Word (codes "of") ∷ (b ++ c)) h.1) within.0) (query-valid c query k (second b c behind) within.1)
+question-valid _ _ (q.explain_saw t k a query i) h none = query-valid a query i h.1.1.1.1.1 none
 
 closed-valid : {A : Type 0} (Is : Lexemes → A → Type 0) (shape : A → Shape) (test : A → Bool)
     → ((a : Lexemes) (x : A) → Is a x → AreOfText a → passed_limit (shape x) ≡ None → test x ≡ true)

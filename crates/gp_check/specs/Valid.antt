@@ -62,23 +62,31 @@ is_valid _ = true
 -- the command of a change, if it has one
 abbrev pub change_is_valid : LogChange → Bool
 change_is_valid (y.drop t k) = true
+change_is_valid (y.drop_all t) = true
 change_is_valid (y.replace t k command) = is_valid command
 change_is_valid (y.add t command) = is_valid command
 
-abbrev pub side_is_valid : Side → Bool
-side_is_valid (y.as_is kept) = true
-side_is_valid (y.changed change kept) = change_is_valid change
+abbrev pub changes_are_valid : List LogChange → Bool
+changes_are_valid = list_all change_is_valid
 
--- the query of a question and the commands of its changes, if it has them
+abbrev pub side_is_valid : Side → Bool
+side_is_valid (y.as_is subject) = true
+side_is_valid (y.changed changes subject) = changes_are_valid changes
+
+-- the query or the condition of a question and the commands of its changes, if it has them
 abbrev pub question_is_valid : Question → Bool
 question_is_valid y.transactions = true
 question_is_valid (y.log t) = true
 question_is_valid (y.versions table) = true
-question_is_valid (y.saw t k query) = query_is_valid query
 question_is_valid (y.changes t k) = true
 question_is_valid (y.commit_changes t) = true
+question_is_valid (y.conflicts t) = true
+question_is_valid (y.history table cond) = condition_is_valid cond
+question_is_valid (y.when query) = query_is_valid query
+question_is_valid y.serial = true
 question_is_valid y.check = true
 question_is_valid (y.diff first second query) = (side_is_valid first && side_is_valid second) && query_is_valid query
-question_is_valid (y.causes kept query) = query_is_valid query
-question_is_valid (y.ask how state query) = query_is_valid query
-question_is_valid (y.what_if change how state query) = change_is_valid change && query_is_valid query
+question_is_valid (y.causes subject query) = query_is_valid query
+question_is_valid (y.ask subject query) = query_is_valid query
+question_is_valid (y.what_if changes subject query) = changes_are_valid changes && query_is_valid query
+question_is_valid (y.explain_saw t k query) = query_is_valid query

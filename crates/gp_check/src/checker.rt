@@ -12,7 +12,6 @@ ghost use Rattle.gp_check.specs.Valid.{is_valid, query_is_valid, tables_are_vali
 ghost use Rattle.gp_check.specs.Views.{Checks, Finds};
 
 use crate::columns::{known_query_columns, known_set_columns, known_where_columns};
-use crate::error::CheckStop;
 use crate::meaning::{select, set_exprs, table_number, where_of};
 use crate::names::first_repeated;
 use crate::scope::{columns_of, target_scope};
@@ -23,22 +22,22 @@ use crate::typing::{
 };
 use crate::widths::{have_one_width, have_width, rows_have_width};
 use gp_algebra::{Select, Stmt};
-use gp_base::{Catalog, Name, Refusal, Row, Sequence, Table};
+use gp_base::{Catalog, Name, Refusal, Row, Sequence, Stop, Table};
 use gp_syntax::{Block, Command, Query, SetTerm, Term};
 use std::alloc::Global;
 
 /// Refuses by this refusal unless the fact holds.
-fn require(holds: bool, refusal: Refusal) -> Result<(), CheckStop>
+fn require(holds: bool, refusal: Refusal) -> Result<(), Stop>
     ensures { Finds result (f.unless holds refusal) }
 {
     if holds {
         return Ok(());
     }
-    Err(CheckStop::Refused(refusal))
+    Err(Stop::Refused(refusal))
 }
 
 /// Refuses a query that is not well typed.
-fn typed_query(alloc: Global, catalog: &Catalog, blocks: &[Block]) -> Result<(), CheckStop>
+fn typed_query(alloc: Global, catalog: &Catalog, blocks: &[Block]) -> Result<(), Stop>
     ensures { Finds result
         (f.unless (f.query_is_typed catalog.now (map block_view blocks.now)) Refusal.E07) }
 {
@@ -53,7 +52,7 @@ fn typed_insert(
     catalog: &Catalog,
     table: &Name,
     blocks: &[Block],
-) -> Result<(), CheckStop>
+) -> Result<(), Stop>
     ensures { Finds result (f.unless
         (f.is_typed catalog.now
         (y.insert_select table.now (map block_view blocks.now))) Refusal.E07) }
@@ -68,17 +67,17 @@ fn typed_insert(
 }
 
 /// Refuses an assignment to a column that is set before.
-fn different_sets(sets: &[SetTerm]) -> Result<(), CheckStop>
+fn different_sets(sets: &[SetTerm]) -> Result<(), Stop>
     ensures { Finds result (f.repeated_set (map set_view sets.now)) }
 {
     match first_repeated(sets) {
         None => Ok(()),
-        Some(col) => Err(CheckStop::Refused(Refusal::E08 { name: col.clone()? })),
+        Some(col) => Err(Stop::Refused(Refusal::E08 { name: col.clone()? })),
     }
 }
 
 /// Checks an INSERT with VALUES.
-fn check_insert(catalog: &Catalog, table: &Name, rows: &Sequence<Row>) -> Result<Stmt, CheckStop>
+fn check_insert(catalog: &Catalog, table: &Name, rows: &Sequence<Row>) -> Result<Stmt, Stop>
     ensures { Checks statement_view result (checked catalog.now (y.insert table.now rows.now)) }
 {
     known_table(catalog, table)?;
@@ -100,7 +99,7 @@ fn check_insert_select(
     catalog: &Catalog,
     table: &Name,
     blocks: &[Block],
-) -> Result<Stmt, CheckStop>
+) -> Result<Stmt, Stop>
     ensures { Checks statement_view result
         (checked catalog.now (y.insert_select table.now (map block_view blocks.now))) }
 {
@@ -123,7 +122,7 @@ fn check_update(
     table: &Name,
     sets: &[SetTerm],
     cond: &Option<Term>,
-) -> Result<Stmt, CheckStop>
+) -> Result<Stmt, Stop>
     ensures { Checks statement_view result
         (checked catalog.now
         (y.update table.now (map set_view sets.now) (condition_view cond.now))) }
@@ -149,7 +148,7 @@ fn check_delete(
     catalog: &Catalog,
     table: &Name,
     cond: &Option<Term>,
-) -> Result<Stmt, CheckStop>
+) -> Result<Stmt, Stop>
     ensures { Checks statement_view result
         (checked catalog.now (y.delete table.now (condition_view cond.now))) }
 {
@@ -164,7 +163,7 @@ fn check_delete(
 }
 
 /// Checks some SELECTs.
-fn check_blocks(alloc: Global, catalog: &Catalog, blocks: &[Block]) -> Result<Select, CheckStop>
+fn check_blocks(alloc: Global, catalog: &Catalog, blocks: &[Block]) -> Result<Select, Stop>
     ensures { Checks select_view result (checked_query catalog.now (map block_view blocks.now)) }
 {
     known_tables(catalog, blocks)?;
@@ -176,7 +175,7 @@ fn check_blocks(alloc: Global, catalog: &Catalog, blocks: &[Block]) -> Result<Se
     Ok(select(alloc, catalog, blocks)?)
 }
 
-fn check_statement(alloc: Global, catalog: &Catalog, command: &Command) -> Result<Stmt, CheckStop>
+fn check_statement(alloc: Global, catalog: &Catalog, command: &Command) -> Result<Stmt, Stop>
     requires { is_statement (command_view command.now) ≡ true }
     ensures { Checks statement_view result (checked catalog.now (command_view command.now)) }
 {
@@ -203,7 +202,7 @@ fn check_statement(alloc: Global, catalog: &Catalog, command: &Command) -> Resul
 ///
 /// The statement of a valid command fits a catalogue of valid tables. A command that was read is valid
 /// ([`crate::read_commands_are_valid`]), and so is a table that such a command creates ([`crate::created_tables_are_valid`]).
-pub fn check(alloc: Global, catalog: &Catalog, command: &Command) -> Result<Stmt, CheckStop>
+pub fn check(alloc: Global, catalog: &Catalog, command: &Command) -> Result<Stmt, Stop>
     requires { is_statement (command_view command.now) ≡ true }
     ensures checked { Checks statement_view result
         (checked catalog.now (command_view command.now)) }
@@ -216,7 +215,7 @@ pub fn check(alloc: Global, catalog: &Catalog, command: &Command) -> Result<Stmt
 
 /// Checks the query of a question, as [`check`] checks a SELECT. The query of a question that was read is valid
 /// ([`crate::read_questions_are_valid`]).
-pub fn check_query(alloc: Global, catalog: &Catalog, query: &Query) -> Result<Select, CheckStop>
+pub fn check_query(alloc: Global, catalog: &Catalog, query: &Query) -> Result<Select, Stop>
     ensures checked { Checks select_view result (checked_query catalog.now (query_view query.now)) }
     ensures fits { IfOk result (λ select. tables_are_valid catalog.now ≡ true
         → query_is_valid (query_view query.now) ≡ true
@@ -227,17 +226,17 @@ pub fn check_query(alloc: Global, catalog: &Catalog, query: &Query) -> Result<Se
 
 /// Checks a new table. The refusal is E08 exactly if its name is that of a table, or the name of a column is repeated: it
 /// names the table, or else the first column with the name of an earlier one.
-pub fn check_table(catalog: &Catalog, table: &Table) -> Result<(), CheckStop>
+pub fn check_table(catalog: &Catalog, table: &Table) -> Result<(), Stop>
     ensures { Finds result (f.table_refusal catalog.now table.now) }
 {
     if catalog.find(&table.name).is_some() {
-        return Err(CheckStop::Refused(Refusal::E08 {
+        return Err(Stop::Refused(Refusal::E08 {
             name: table.name.clone()?,
         }));
     }
     match first_repeated(table.cols.as_slice()) {
         None => Ok(()),
-        Some(name) => Err(CheckStop::Refused(Refusal::E08 {
+        Some(name) => Err(Stop::Refused(Refusal::E08 {
             name: name.clone()?,
         })),
     }

@@ -36,7 +36,8 @@ pub fn read_lines_are_valid()
         → script_line_of text ≡ Ok line → is_valid line.command ≡ true }
 {}
 
-/// The query of a question that was read is valid, for [`crate::check_query`], and so are the commands of its changes.
+/// The query or the condition of a question that was read is valid, for [`crate::check_query`], and so are the commands of its
+/// changes.
 pub fn read_questions_are_valid()
     ensures derived { (text : List ℕ) (question : Question)
         → ReadsLine IsQuestion question_shape text question → question_is_valid question ≡ true }

@@ -8,15 +8,14 @@
 //! ```text
 //! match check(alloc, &catalog, &command) {
 //!     Ok(stmt) => run(stmt),
-//!     Err(CheckStop::Refused(refusal)) => reply(refusal),
-//!     Err(CheckStop::NoMemory) => return Err(NoMemory),
+//!     Err(Stop::Refused(refusal)) => reply(refusal),
+//!     Err(Stop::NoMemory) => return Err(NoMemory),
 //! }
 //! ```
 #![tactic(auto)]
 
 mod checker;
 mod columns;
-mod error;
 mod laws;
 mod meaning;
 mod names;
@@ -29,7 +28,6 @@ mod typing;
 mod widths;
 
 pub use checker::{check, check_query, check_table};
-pub use error::CheckStop;
 pub use laws::{
     created_tables_are_valid, read_commands_are_valid, read_lines_are_valid,
     read_questions_are_valid, typing_follows_the_rules,

@@ -55,7 +55,7 @@ pub values_substituted : (exprs inner : List Expr) (row : List Cell) →
 values_substituted [] inner row = refl
 values_substituted (expr ∷ exprs) inner row = λ i. value_substituted expr inner row i ∷ values_substituted exprs inner row i
 
--- the same of expressions of the code in place of the columns
+-- the values of views, where the expressions are those of the code
 values_of_views : (inner : List Code) (row : List Cell) → map (λ expr. value expr row) (map expr_view inner) ≡ map (λ a. value (expr_view a) row) inner
 values_of_views [] row = refl
 values_of_views (a ∷ inner) row = ap (λ rest. value (expr_view a) row ∷ rest) (values_of_views inner row)

@@ -39,17 +39,17 @@ unfolding AreShallow
 shallow-split [] ys h = (tt, h)
 shallow-split (x ∷ xs) ys h = let w : AreShallow xs × AreShallow ys = shallow-split xs ys h.1 in ((h.0, w.0), w.1)
 
-none-deep : (c f b v n d : Bool) → first_limit c f b v n d ≡ None → d ≡ false
-none-deep true f b v n d h = cc
-none-deep false true b v n d h = cc
-none-deep false false true v n d h = cc
-none-deep false false false true n d h = cc
-none-deep false false false false true d h = cc
-none-deep false false false false false true h = cc
-none-deep false false false false false false h = refl
+none-deep : (c f b v n d k : Bool) → first_limit c f b v n d k ≡ None → d ≡ false
+none-deep true f b v n d k h = cc
+none-deep false true b v n d k h = cc
+none-deep false false true v n d k h = cc
+none-deep false false false true n d k h = cc
+none-deep false false false false true d k h = cc
+none-deep false false false false false true k h = cc
+none-deep false false false false false false k h = refl
 
 within-shallow : (s : Shape) → passed_limit s ≡ None → AreShallow s.terms
-within-shallow s h = shallow-terms s.terms (none-deep _ _ _ _ _ _ (sym (of_shape s) ∙ h))
+within-shallow s h = shallow-terms s.terms (none-deep _ _ _ _ _ _ _ (sym (of_shape s) ∙ h))
 
 -- ---- balanced lexemes
 

@@ -17,9 +17,6 @@ Balanced n ts = (room : ℕ) (rest : Lexemes) → n ≤ room → is_too_deep roo
 pub both : (n : ℕ) (a b : Lexemes) → Balanced n a → Balanced n b → Balanced n (a ++ b)
 both n a b f g room rest h = ap (is_too_deep room) (append_assoc a b rest) ∙ f room (b ++ rest) h ∙ g room rest h
 
-pub more-room : (n m : ℕ) (a : Lexemes) → n ≤ m → Balanced n a → Balanced m a
-more-room n m a h f room rest k = f room rest (omega arith)
-
 pub in-brackets : (n : ℕ) (a : Lexemes) → Balanced n a → Balanced (suc n) (bracketed a)
 in-brackets n a f zero rest h = absurd (omega arith)
 in-brackets n a f (suc room) rest h = ap (is_too_deep room) (append_assoc a (Sign s.Close ∷ []) rest) ∙ f room (Sign s.Close ∷ rest) (omega arith)

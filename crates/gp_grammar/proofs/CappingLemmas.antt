@@ -56,18 +56,6 @@ is_true-fair : (x : Term) (b : Bool) → Fair x (capped x) → Fair (syntax.is_t
 unfolding is_true
 is_true-fair x b h = unary-fair (λ z. syntax.is_true z b) (λ z. refl) x (capped x) h (is_large (capped x)) refl
 
-positive : (x : Term) → 1 ≤ nodes x
-positive syntax.null = omega arith
-positive (syntax.int n) = omega arith
-positive (syntax.text b) = omega arith
-positive (syntax.col i c) = omega arith
-positive (syntax.binary o x y) = omega arith
-positive (syntax.neg x) = omega arith
-positive (syntax.not x) = omega arith
-positive (syntax.is_null x b) = omega arith
-positive (syntax.is_true x b) = omega arith
-positive (syntax.case x y z) = omega arith
-
 same-small : (x built : Term) → Fair x built → is_large built ≡ false → built ≡ x
 same-small x built h e = h.small (small-back x built h (ltb-false MAX_NODES (nodes built) e))
 

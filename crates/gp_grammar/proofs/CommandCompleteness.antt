@@ -63,7 +63,7 @@ separated-exact Is item w Fits f each a xs i rest h n =
 abbrev Anything : Lexemes → Type 0
 Anything ts = Unit {0}
 
-abbrev Loose : Lexemes → Type 0
+abbrev pub Loose : Lexemes → Type 0
 Loose rest = first_binds rest < 1
 
 -- ---- the parsers shrink
@@ -217,7 +217,7 @@ items-complete _ _ (g.terms a xs i) rest h n =
     ap (λ o. by_option o (separated term (a ++ rest) >>= (λ r. Ok (syntax.list r.0, r.1))) (accept syntax.star)) (no-star-list i rest)
     ∙ ap (λ o. o >>= (λ r. Ok (syntax.list r.0, r.1))) (terms-complete a xs i rest h n)
 
-condition-complete : (w : Lexemes) (cond : Option Term) → IsWhere w cond → (rest : Lexemes) → Loose rest → strip s.Where rest ≡ None → c.condition (w ++ rest) ≡ Ok (option_map capped cond, rest)
+pub condition-complete : (w : Lexemes) (cond : Option Term) → IsWhere w cond → (rest : Lexemes) → Loose rest → strip s.Where rest ≡ None → c.condition (w ++ rest) ≡ Ok (option_map capped cond, rest)
 unfolding c.condition
 condition-complete _ _ g.absent rest h n = ap (λ o. by_option o (Ok (None, rest)) (λ ts. term ts >>= (λ r. Ok (Some r.0, r.1)))) n
 condition-complete _ _ (g.present a x i) rest h n = ap (λ o. o >>= (λ r. Ok (Some r.0, r.1))) (term-complete a x i rest h)

@@ -231,7 +231,7 @@ module _ (t : Lexeme) (m m' : Lexemes) where
   local-items = local-next-all t m m' s.Star (accept syntax.star) (λ ts. separated term ts >>= (λ r. Ok (syntax.list r.0, r.1))) (λ n. local-ok t m m' n syntax.star)
       (λ n. local-bind t m m' n (separated term) _ (local-separated t m m' term shrinks-term n (local-term t m m' n)) (λ xs. local-ok t m m' n (syntax.list xs)))
 
-  local-condition : IsLocal c.condition
+  pub local-condition : IsLocal c.condition
   unfolding c.condition
   local-condition = local-next-all t m m' s.Where (λ ts. term ts >>= (λ r. Ok (Some r.0, r.1))) (accept None)
       (λ n. local-bind t m m' n term _ (local-term t m m' n) (λ x. local-ok t m m' n (Some x))) (λ n. local-ok t m m' n None)

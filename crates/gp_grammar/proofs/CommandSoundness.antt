@@ -83,7 +83,7 @@ items-sound ts = next-sound s.Star BuildsItems (accept syntax.star) (λ ts. sepa
     (sound-bind (IsList comma BuildsTerm) BuildsItems ts (separated term ts) (λ r. Ok (syntax.list r.0, r.1)) (separated-sound BuildsTerm term term-sound ts)
     (λ a ts1 xs i. sound-ok (λ b y. BuildsItems (a ++ b) y) ts1 (syntax.list xs) (rw append-nil (built.terms a xs i))))
 
-condition-sound : (ts : Lexemes) → Sound BuildsWhere ts (c.condition ts)
+pub condition-sound : (ts : Lexemes) → Sound BuildsWhere ts (c.condition ts)
 unfolding c.condition
 condition-sound ts = next-sound s.Where BuildsWhere (λ ts. term ts >>= (λ r. Ok (Some r.0, r.1))) (accept None) ts
     (λ ts1. sound-bind BuildsTerm (λ b y. BuildsWhere (Sign s.Where ∷ b) y) ts1 (term ts1) _ (term-sound ts1) (λ a ts2 x i. sound-ok _ ts2 (Some x) (rw append-nil (built.condition a x i))))

@@ -31,3 +31,4 @@ pub mod CanonicalCommandDepth
 pub mod CanonicalLaws
 pub mod Utf8Lemmas
 pub mod LineFeedLemmas
+pub mod WrittenLines

@@ -1,6 +1,6 @@
 -- What the grammar of questions derives is parsed.
 use Rattle.std.proofs.Common.{◌≡◌, ℕ, zero, suc, ◌<◌, ◌≤◌, Bool, true, false, cond, List, [], ◌∷◌, ◌++◌, map, length, Option, Some, None, Ok, Err, IfSome, refl, sym, ap, subst, arith, ◌∙◌, append_assoc}
-use Rattle.std.specs.Prelude.{codes, nat_le}
+use Rattle.std.specs.Prelude.{codes, nat_le, option_map}
 use Rattle.std.proofs.lemmas.Bool.{le-leb}
 use Rattle.gp_lexer.specs.declared.lexeme.Symbol.TheVariants as s
 use Rattle.gp_lexer.specs.declared.lexeme.Lexeme.TheVariants.{Symbol as Sign, Word, Number, Big, Text}
@@ -9,19 +9,20 @@ use Rattle.gp_grammar.specs.declared.token_kind.TokenKind.{TokenKind}
 use Rattle.gp_grammar.specs.declared.token_kind.TokenKind.TheVariants as token
 use Rattle.gp_grammar.specs.declared.limits.TheConstants.{MAX_PATTERN_NUMBER}
 use Rattle.gp_grammar.specs.Syntax as syntax
-use Rattle.gp_grammar.specs.Syntax.{Lexemes, Bytes, Command, Point, Pattern, Rule, rule_of, Rules, How, Query, LogChange, Kept, Side, Question}
-use Rattle.gp_grammar.specs.Capping.{capped_block, capped_command, capped_change, capped_side, capped_question}
+use Rattle.gp_grammar.specs.Syntax.{Lexemes, Bytes, Term, Command, Point, Pattern, Rule, rule_of, Rules, How, Query, LogChange, Subject, Side, Question}
+use Rattle.gp_grammar.specs.Capping.{capped, capped_block, capped_command, capped_change, capped_side, capped_question}
 use Rattle.gp_grammar.specs.CommandGrammar as l
 use Rattle.gp_grammar.specs.CommandGrammar.{IsList, comma, IsQuery, IsStatement, Closed}
 use Rattle.gp_grammar.specs.QuestionGrammar as g
-use Rattle.gp_grammar.specs.QuestionGrammar.{IsPoint, IsSemiring, IsPattern, IsRule, IsRules, IsLeftOut, IsHow, IsAsk, IsChange, IsKept, IsKeptHow, IsSide, IsOpenQuestion, pattern_name}
+use Rattle.gp_grammar.specs.QuestionGrammar.{IsPoint, IsSemiring, IsPattern, IsRule, IsRules, IsLeftOut, IsHow, IsSubject, IsChange, IsChanges, IsKept, IsKeptHow, IsSideSubject, IsSide, IsOpenQuestion, pattern_name}
 use Rattle.gp_grammar.specs.Parsing.{Outcome, Parser, ◌>>=◌, by_option, strip, expect}
-use Rattle.gp_grammar.specs.CommandParsing.{◌then◌, where_next, accept, strip_word, expect_word, push, query, statement}
+use Rattle.gp_grammar.specs.CommandParsing.{◌then◌, where_next, accept, strip_word, expect_word, push, condition, query, statement}
 use Rattle.gp_grammar.specs.QuestionParsing as q
 use Rattle.gp_grammar.specs.QuestionParsing.{number_if, number, pattern_of}
 use Rattle.gp_grammar.proofs.Agreement.{Agree, agree-refl, agree-bind, agree-weaken, strip-less}
-use Rattle.gp_grammar.proofs.Shrinking.{Below, Shrinks, Keeps, shrinks-keeps, keeps-accept, shrinks-bind, keeps-bind, keeps-next, shrinks-then}
-use Rattle.gp_grammar.proofs.CommandCompleteness.{EndsQuery, close-ends, separated-exact, in_brackets-complete, query-complete, statement-complete, closed-complete}
+use Rattle.gp_grammar.proofs.Shrinking.{Below, Shrinks, Keeps, shrinks-keeps, keeps-accept, shrinks-bind, keeps-bind, keeps-next, shrinks-then, shrinks-sound}
+use Rattle.gp_grammar.proofs.CommandCompleteness.{EndsQuery, close-ends, separated-complete, separated-exact, in_brackets-complete, condition-complete, query-complete, statement-complete, closed-complete}
+use Rattle.gp_grammar.proofs.QuestionSoundness.{BuildsChange, change-sound}
 
 -- ---- the parser of rules shrinks, and its bound does not matter
 
@@ -80,6 +81,19 @@ shrinks-rule = shrinks-bind q.pattern _ shrinks-pattern (λ p. shrinks-keeps _ (
 pub shrinks-left_out : Shrinks q.left_out
 unfolding q.left_out
 shrinks-left_out = shrinks-bind q.pattern _ shrinks-pattern (λ p. keeps-accept (rule_of p 0))
+
+-- a change begins with a word
+built_change-some : (a : Lexemes) (x : LogChange) → BuildsChange a x → 0 < length a
+built_change-some a x i = some a i.tree i.is
+  where
+    some : (a : Lexemes) (x : LogChange) → IsChange a x → 0 < length a
+    some _ _ (g.drop t k) = omega arith
+    some _ _ (g.drop_all t) = omega arith
+    some _ _ (g.replace t k a x i) = omega arith
+    some _ _ (g.add t a x i) = omega arith
+
+pub shrinks-change : Shrinks q.change
+shrinks-change = shrinks-sound BuildsChange q.change change-sound built_change-some
 
 abbrev end_of_rules : List Rule → Parser Rules
 end_of_rules found = s.Close then accept (record { rules = found; other = None })
@@ -240,16 +254,19 @@ without-complete a xs i rest = ap (λ o. o >>= (λ rules. expect_word (codes "of
 -- what begins a state is no word that something else begins with
 record BeginsState (ts : Lexemes) : Type 0 where
   no_provenance : strip_word (codes "provenance") ts ≡ None
+  no_saw : strip_word (codes "saw") ts ≡ None
   rows : q.how ts ≡ Ok (syntax.rows, ts)
   all : q.kept_how ts ≡ Ok (syntax.rows, ts)
+  states : q.subject ts ≡ q.of_state q.how ts
+  kept_states : q.side_subject ts ≡ q.kept ts
   sides : q.side ts ≡ q.as_is_side ts
-  asks : q.open_question ts ≡ q.ask syntax.ask ts
+  asks : q.open_question ts ≡ q.asked_of syntax.ask q.subject ts
 
 begins-state : (b : Lexemes) (x : Point) → IsPoint b x → (rest : Lexemes) → BeginsState (b ++ rest)
-unfolding q.how q.kept_how q.side q.open_question
-begins-state _ _ (g.as_of v) rest = record { no_provenance = refl; rows = refl; all = refl; sides = refl; asks = refl }
-begins-state _ _ (g.after t k) rest = record { no_provenance = refl; rows = refl; all = refl; sides = refl; asks = refl }
-begins-state _ _ (g.commit t) rest = record { no_provenance = refl; rows = refl; all = refl; sides = refl; asks = refl }
+unfolding q.how q.kept_how q.subject q.side_subject q.side q.open_question
+begins-state _ _ (g.as_of v) rest = record { no_provenance = refl; no_saw = refl; rows = refl; all = refl; states = refl; kept_states = refl; sides = refl; asks = refl }
+begins-state _ _ (g.after t k) rest = record { no_provenance = refl; no_saw = refl; rows = refl; all = refl; states = refl; kept_states = refl; sides = refl; asks = refl }
+begins-state _ _ (g.commit t) rest = record { no_provenance = refl; no_saw = refl; rows = refl; all = refl; states = refl; kept_states = refl; sides = refl; asks = refl }
 
 value-of : (ts us rest : Lexemes) (k : SemiringName) (r : Rules) → q.semiring_name ts ≡ Ok (k, us) → q.rules us ≡ Ok (r, Word (codes "of") ∷ rest)
     → q.value (Word (codes "in") ∷ ts) ≡ Ok (syntax.value k r.rules r.other, rest)
@@ -273,39 +290,68 @@ how-complete _ _ (g.value a b k r i j) rest h =
     (rules-complete b r j (Word (codes "of") ∷ rest) refl)
 how-complete _ _ (g.without a xs i) rest h = ap q.without (append_assoc a (Word (codes "of") ∷ []) rest) ∙ without-complete a xs i rest
 
--- a question that asks is none of the others
-begins-how : (a : Lexemes) (x : How) → IsHow a x → (rest : Lexemes) → BeginsState rest → q.open_question (a ++ rest) ≡ q.ask syntax.ask (a ++ rest)
-unfolding q.open_question
-begins-how _ _ g.rows rest h = h.asks
+-- ---- subjects
+
+of_state-of : (how : Parser How) (ts us rest : Lexemes) (x : How) (state : Point) → how ts ≡ Ok (x, us) → q.state us ≡ Ok (state, rest)
+    → q.of_state how ts ≡ Ok (syntax.of_state x state, rest)
+unfolding q.of_state
+of_state-of how ts us rest x state e f =
+    ap (λ o. o >>= (λ how. q.state how.1 >>= (λ state. Ok (syntax.of_state how.0 state.0, state.1)))) e
+    ∙ ap (λ o. o >>= (λ state. Ok (syntax.of_state x state.0, state.1))) f
+
+-- a subject that asks of a state is not what a transaction saw
+begins-how : (a : Lexemes) (x : How) → IsHow a x → (rest : Lexemes) → BeginsState rest → q.subject (a ++ rest) ≡ q.of_state q.how (a ++ rest)
+unfolding q.subject
+begins-how _ _ g.rows rest h = h.states
 begins-how _ _ g.provenance rest h = refl
 begins-how _ _ g.explain rest h = refl
 begins-how _ _ g.explain_provenance rest h = refl
 begins-how _ _ (g.value a b k r i j) rest h = refl
 begins-how _ _ (g.without a xs i) rest h = refl
 
-ask-split : (a b c rest : Lexemes) → (a ++ (b ++ c)) ++ rest ≡ a ++ (b ++ (c ++ rest))
-ask-split a b c rest = simp append_assoc
+subject-complete : (a : Lexemes) (x : Subject) → IsSubject a x → (rest : Lexemes) → q.subject (a ++ rest) ≡ Ok (x, rest)
+unfolding q.subject q.saw q.saw_numbers
+subject-complete _ _ (g.of_state a b how state i j) rest =
+    let begins : BeginsState (b ++ rest) = begins-state b state j rest in
+    ap q.subject (append_assoc a b rest)
+    ∙ begins-how a how i (b ++ rest) begins
+    ∙ of_state-of q.how (a ++ (b ++ rest)) (b ++ rest) rest how state (how-complete a how i (b ++ rest) begins) (state-complete b state j rest)
+subject-complete _ _ (g.of_saw _ _ (g.saw t k)) rest = refl
 
-begins-ask : (a : Lexemes) (how : How) (state : Point) (xs : Query) → IsAsk a how state xs → (rest : Lexemes) → q.open_question (a ++ rest) ≡ q.ask syntax.ask (a ++ rest)
-begins-ask _ _ _ _ (g.asked a b c how state xs i j k) rest =
-    let P : Lexemes → Type 0 = λ z. q.open_question z ≡ q.ask syntax.ask z in
-    subst P (sym (ask-split a b c rest)) (begins-how a how i (b ++ (c ++ rest)) (begins-state b state j (c ++ rest)))
+kept_how-complete : (a : Lexemes) (x : How) → IsKeptHow a x → (rest : Lexemes) → BeginsState rest → q.kept_how (a ++ rest) ≡ Ok (x, rest)
+unfolding q.kept_how
+kept_how-complete _ _ g.all rest h = h.all
+kept_how-complete _ _ (g.remaining a xs i) rest h = ap q.without (append_assoc a (Word (codes "of") ∷ []) rest) ∙ without-complete a xs i rest
 
-module _ {A : Type 0} (question : How → Point → Query → A) where
-  ask-of : (ts us ws rest : Lexemes) (how : How) (state : Point) (xs : Query) → q.how ts ≡ Ok (how, us) → q.state us ≡ Ok (state, ws) → query ws ≡ Ok (xs, rest)
-      → q.ask question ts ≡ Ok (question how state xs, rest)
-  unfolding q.ask
-  ask-of ts us ws rest how state xs e f h =
-      ap (λ o. o >>= (λ how. q.state how.1 >>= (λ state. query state.1 >>= (λ xs. Ok (question how.0 state.0 xs.0, xs.1))))) e
-      ∙ ap (λ o. o >>= (λ state. query state.1 >>= (λ xs. Ok (question how state.0 xs.0, xs.1)))) f
-      ∙ ap (λ o. o >>= (λ xs. Ok (question how state xs.0, xs.1))) h
+kept-complete : (a : Lexemes) (x : Subject) → IsKept a x → (rest : Lexemes) → q.kept (a ++ rest) ≡ Ok (x, rest)
+kept-complete _ _ (g.kept a b how state i j) rest =
+    ap q.kept (append_assoc a b rest)
+    ∙ of_state-of q.kept_how (a ++ (b ++ rest)) (b ++ rest) rest how state (kept_how-complete a how i (b ++ rest) (begins-state b state j rest)) (state-complete b state j rest)
 
-  ask-complete : (a : Lexemes) (how : How) (state : Point) (xs : Query) → IsAsk a how state xs → (rest : Lexemes) → EndsQuery rest
-      → q.ask question (a ++ rest) ≡ Ok (question how state (map capped_block xs), rest)
-  ask-complete _ _ _ _ (g.asked a b c how state xs i j k) rest h =
-      ap (q.ask question) (ask-split a b c rest)
-      ∙ ask-of (a ++ (b ++ (c ++ rest))) (b ++ (c ++ rest)) (c ++ rest) rest how state (map capped_block xs)
-      (how-complete a how i (b ++ (c ++ rest)) (begins-state b state j (c ++ rest))) (state-complete b state j (c ++ rest)) (query-complete c xs k rest h)
+-- a state that begins with no SAW, in a side that begins with no WHATIF
+record BeginsKept (ts : Lexemes) : Type 0 where
+  subject : q.side_subject ts ≡ q.kept ts
+  side : q.side ts ≡ q.as_is_side ts
+
+begins-kept_how : (a : Lexemes) (x : How) → IsKeptHow a x → (rest : Lexemes) → BeginsState rest → BeginsKept (a ++ rest)
+unfolding q.side_subject q.side
+begins-kept_how _ _ g.all rest h = record { subject = h.kept_states; side = h.sides }
+begins-kept_how _ _ (g.remaining a xs i) rest h = record { subject = refl; side = refl }
+
+begins-kept : (a : Lexemes) (x : Subject) → IsKept a x → (rest : Lexemes) → BeginsKept (a ++ rest)
+begins-kept _ _ (g.kept a b how state i j) rest = subst BeginsKept (sym (append_assoc a b rest)) (begins-kept_how a how i (b ++ rest) (begins-state b state j rest))
+
+side_subject-complete : (a : Lexemes) (x : Subject) → IsSideSubject a x → (rest : Lexemes) → q.side_subject (a ++ rest) ≡ Ok (x, rest)
+unfolding q.side_subject q.saw q.saw_numbers
+side_subject-complete _ _ (g.kept_side a x i) rest = (begins-kept a x i rest).subject ∙ kept-complete a x i rest
+side_subject-complete _ _ (g.saw_side _ _ (g.saw t k)) rest = refl
+
+asked-of : (question : Subject → Query → Question) (subject : Parser Subject) (ts us rest : Lexemes) (x : Subject) (xs : Query) → subject ts ≡ Ok (x, us) → query us ≡ Ok (xs, rest)
+    → q.asked_of question subject ts ≡ Ok (question x xs, rest)
+unfolding q.asked_of
+asked-of question subject ts us rest x xs e f =
+    ap (λ o. o >>= (λ subject. query subject.1 >>= (λ query. Ok (question subject.0 query.0, query.1)))) e
+    ∙ ap (λ o. o >>= (λ query. Ok (question x query.0, query.1))) f
 
 -- ---- changes
 
@@ -321,66 +367,56 @@ added-of : (t : ℕ) (ts rest : Lexemes) (x : Command) → q.by_statement ts ≡
 unfolding q.added
 added-of t ts rest x e = ap (λ o. o >>= (λ x. Ok (syntax.add t x.0, x.1))) e
 
-change-complete : (a : Lexemes) (x : LogChange) → IsChange a x → (rest : Lexemes) → q.change (a ++ rest) ≡ Ok (capped_change x, rest)
+-- no number of a statement follows
+abbrev NoNumber : Lexemes → Type 0
+NoNumber rest = (t : ℕ) → q.dropped_from t rest ≡ Ok (syntax.drop_all t, rest)
+
+change-complete : (a : Lexemes) (x : LogChange) → IsChange a x → (rest : Lexemes) → NoNumber rest → q.change (a ++ rest) ≡ Ok (capped_change x, rest)
 unfolding q.change q.dropped
-change-complete _ _ (g.drop t k) rest = refl
-change-complete _ _ (g.replace t k a x i) rest = replaced-of t k _ rest (capped_command x) (by_statement-complete a x i rest)
-change-complete _ _ (g.add t a x i) rest = added-of t _ rest (capped_command x) (by_statement-complete a x i rest)
+change-complete _ _ (g.drop t k) rest n = refl
+change-complete _ _ (g.drop_all t) rest n = n t
+change-complete _ _ (g.replace t k a x i) rest n = replaced-of t k _ rest (capped_command x) (by_statement-complete a x i rest)
+change-complete _ _ (g.add t a x i) rest n = added-of t _ rest (capped_command x) (by_statement-complete a x i rest)
 
-what_if-of : (ts us rest : Lexemes) (change : LogChange) (x : Question) → q.change ts ≡ Ok (change, Word (codes "of") ∷ us) → q.ask (syntax.what_if change) us ≡ Ok (x, rest)
-    → q.what_if ts ≡ Ok (x, rest)
+-- behind the changes stands OF
+changes-complete : (a : Lexemes) (xs : List LogChange) → IsChanges a xs → (rest : Lexemes)
+    → q.changes_of (a ++ (Word (codes "of") ∷ rest)) ≡ Ok (map capped_change xs, Word (codes "of") ∷ rest)
+changes-complete a xs i rest =
+    separated-complete IsChange capped_change q.change shrinks-change NoNumber (λ ts t. refl) change-complete a xs i (Word (codes "of") ∷ rest) (λ t. refl) refl
+
+what_if-of : (ts us rest : Lexemes) (changes : List LogChange) (x : Question) → q.changes_of ts ≡ Ok (changes, Word (codes "of") ∷ us)
+    → q.asked_of (syntax.what_if changes) q.subject us ≡ Ok (x, rest) → q.what_if ts ≡ Ok (x, rest)
 unfolding q.what_if
-what_if-of ts us rest change x e f = ap (λ o. o >>= (λ change. expect_word (codes "of") (q.ask (syntax.what_if change.0)) change.1)) e ∙ f
+what_if-of ts us rest changes x e f = ap (λ o. o >>= (λ changes. expect_word (codes "of") (q.asked_of (syntax.what_if changes.0) q.subject) changes.1)) e ∙ f
 
--- ---- states of which some rows are left, and sides
+-- ---- sides
 
-kept_how-complete : (a : Lexemes) (x : How) → IsKeptHow a x → (rest : Lexemes) → BeginsState rest → q.kept_how (a ++ rest) ≡ Ok (x, rest)
-unfolding q.kept_how
-kept_how-complete _ _ g.all rest h = h.all
-kept_how-complete _ _ (g.remaining a xs i) rest h = ap q.without (append_assoc a (Word (codes "of") ∷ []) rest) ∙ without-complete a xs i rest
-
-kept-of : (ts us rest : Lexemes) (how : How) (state : Point) → q.kept_how ts ≡ Ok (how, us) → q.state us ≡ Ok (state, rest) → q.kept ts ≡ Ok (q.kept_of how state, rest)
-unfolding q.kept
-kept-of ts us rest how state e f =
-    ap (λ o. o >>= (λ how. q.state how.1 >>= (λ state. Ok (q.kept_of how.0 state.0, state.1)))) e
-    ∙ ap (λ o. o >>= (λ state. Ok (q.kept_of how state.0, state.1))) f
-
-kept-complete : (a : Lexemes) (x : Kept) → IsKept a x → (rest : Lexemes) → q.kept (a ++ rest) ≡ Ok (x, rest)
-kept-complete _ _ (g.kept a b how state i j) rest =
-    ap q.kept (append_assoc a b rest)
-    ∙ kept-of (a ++ (b ++ rest)) (b ++ rest) rest how state (kept_how-complete a how i (b ++ rest) (begins-state b state j rest)) (state-complete b state j rest)
-
--- a side that begins with no WHATIF
-begins-kept_how : (a : Lexemes) (x : How) → IsKeptHow a x → (rest : Lexemes) → BeginsState rest → q.side (a ++ rest) ≡ q.as_is_side (a ++ rest)
-unfolding q.side
-begins-kept_how _ _ g.all rest h = h.sides
-begins-kept_how _ _ (g.remaining a xs i) rest h = refl
-
-begins-kept : (a : Lexemes) (x : Kept) → IsKept a x → (rest : Lexemes) → q.side (a ++ rest) ≡ q.as_is_side (a ++ rest)
-begins-kept _ _ (g.kept a b how state i j) rest =
-    let P : Lexemes → Type 0 = λ z. q.side z ≡ q.as_is_side z in
-    subst P (sym (append_assoc a b rest)) (begins-kept_how a how i (b ++ rest) (begins-state b state j rest))
-
-as_is-of : (ts rest : Lexemes) (x : Kept) → q.kept ts ≡ Ok (x, rest) → q.as_is_side ts ≡ Ok (syntax.as_is x, rest)
+as_is-of : (ts rest : Lexemes) (x : Subject) → q.side_subject ts ≡ Ok (x, rest) → q.as_is_side ts ≡ Ok (syntax.as_is x, rest)
 unfolding q.as_is_side
-as_is-of ts rest x e = ap (λ o. o >>= (λ kept. Ok (syntax.as_is kept.0, kept.1))) e
+as_is-of ts rest x e = ap (λ o. o >>= (λ subject. Ok (syntax.as_is subject.0, subject.1))) e
 
-changed-of : (ts us rest : Lexemes) (change : LogChange) (x : Kept) → q.change ts ≡ Ok (change, Word (codes "of") ∷ us) → q.kept us ≡ Ok (x, rest)
-    → q.changed_side ts ≡ Ok (syntax.changed change x, rest)
+changed-of : (ts us rest : Lexemes) (changes : List LogChange) (x : Subject) → q.changes_of ts ≡ Ok (changes, Word (codes "of") ∷ us) → q.side_subject us ≡ Ok (x, rest)
+    → q.changed_side ts ≡ Ok (syntax.changed changes x, rest)
 unfolding q.changed_side
-changed-of ts us rest change x e f =
-    ap (λ o. o >>= (λ change. expect_word (codes "of") (λ rest. q.kept rest >>= (λ kept. Ok (syntax.changed change.0 kept.0, kept.1))) change.1)) e
-    ∙ ap (λ o. o >>= (λ kept. Ok (syntax.changed change kept.0, kept.1))) f
+changed-of ts us rest changes x e f =
+    ap (λ o. o >>= (λ changes. expect_word (codes "of") (λ rest. q.side_subject rest >>= (λ subject. Ok (syntax.changed changes.0 subject.0, subject.1))) changes.1)) e
+    ∙ ap (λ o. o >>= (λ subject. Ok (syntax.changed changes subject.0, subject.1))) f
 
 behind_of-split : (a b rest : Lexemes) → (a ++ (Word (codes "of") ∷ b)) ++ rest ≡ a ++ (Word (codes "of") ∷ (b ++ rest))
 behind_of-split a b rest = append_assoc a (Word (codes "of") ∷ b) rest
 
+-- a side that begins with no WHATIF
+begins-side : (a : Lexemes) (x : Subject) → IsSideSubject a x → (rest : Lexemes) → q.side (a ++ rest) ≡ q.as_is_side (a ++ rest)
+unfolding q.side
+begins-side _ _ (g.kept_side a x i) rest = (begins-kept a x i rest).side
+begins-side _ _ (g.saw_side _ _ (g.saw t k)) rest = refl
+
 side-complete : (a : Lexemes) (x : Side) → IsSide a x → (rest : Lexemes) → q.side (a ++ rest) ≡ Ok (capped_side x, rest)
 unfolding q.side
-side-complete _ _ (g.as_is a kept i) rest = begins-kept a kept i rest ∙ as_is-of (a ++ rest) rest kept (kept-complete a kept i rest)
-side-complete _ _ (g.changed a b change kept i j) rest =
+side-complete _ _ (g.as_is a x i) rest = begins-side a x i rest ∙ as_is-of (a ++ rest) rest x (side_subject-complete a x i rest)
+side-complete _ _ (g.changed a b changes x i j) rest =
     ap q.changed_side (behind_of-split a b rest)
-    ∙ changed-of (a ++ (Word (codes "of") ∷ (b ++ rest))) (b ++ rest) rest (capped_change change) kept (change-complete a change i (Word (codes "of") ∷ (b ++ rest))) (kept-complete b kept j rest)
+    ∙ changed-of (a ++ (Word (codes "of") ∷ (b ++ rest))) (b ++ rest) rest (map capped_change changes) x (changes-complete a changes i (b ++ rest)) (side_subject-complete b x j rest)
 
 second_side-of : (x z : Side) (ts us rest : Lexemes) (xs : Query) → q.side ts ≡ Ok (z, us) → query us ≡ Ok (xs, rest) → q.second_side x ts ≡ Ok (syntax.diff x z xs, rest)
 unfolding q.second_side
@@ -392,43 +428,77 @@ diff-of : (x : Side) (ts us rest : Lexemes) (made : Question) → q.side ts ≡ 
 unfolding q.diff
 diff-of x ts us rest made e f = ap (λ o. o >>= (λ first. expect_word (codes "to") (q.second_side first.0) first.1)) e ∙ f
 
-caused-of : (ts us rest : Lexemes) (x : Kept) (xs : Query) → q.kept ts ≡ Ok (x, us) → query us ≡ Ok (xs, rest) → q.caused ts ≡ Ok (syntax.causes x xs, rest)
-unfolding q.caused
-caused-of ts us rest x xs e f =
-    ap (λ o. o >>= (λ kept. query kept.1 >>= (λ query. Ok (syntax.causes kept.0 query.0, query.1)))) e
-    ∙ ap (λ o. o >>= (λ query. Ok (syntax.causes x query.0, query.1))) f
-
 diff-split : (a b c rest : Lexemes) → (a ++ (Word (codes "to") ∷ (b ++ c))) ++ rest ≡ a ++ (Word (codes "to") ∷ (b ++ (c ++ rest)))
 diff-split a b c rest = simp append_assoc
 
 -- ---- questions
 
-saw-of : (t k : ℕ) (ts rest : Lexemes) (xs : Query) → query ts ≡ Ok (xs, rest) → q.saw (Number t ∷ Word (codes "after") ∷ Number k ∷ ts) ≡ Ok (syntax.saw t k xs, rest)
-unfolding q.saw
-saw-of t k ts rest xs e = ap (λ o. o >>= (λ xs. Ok (syntax.saw t k xs.0, xs.1))) e
+history-of : (table : Bytes) (ts rest : Lexemes) (cond : Option Term) → condition ts ≡ Ok (cond, rest) → q.history (Word table ∷ ts) ≡ Ok (syntax.history table cond, rest)
+unfolding q.history
+history-of table ts rest cond e = ap (λ o. o >>= (λ cond. Ok (syntax.history table cond.0, cond.1))) e
+
+when-of : (ts rest : Lexemes) (xs : Query) → query ts ≡ Ok (xs, rest) → q.when ts ≡ Ok (syntax.when xs, rest)
+unfolding q.when
+when-of ts rest xs e = ap (λ o. o >>= (λ xs. Ok (syntax.when xs.0, xs.1))) e
+
+explained_saw-of : (t k : ℕ) (ts rest : Lexemes) (xs : Query) → query ts ≡ Ok (xs, rest)
+    → q.explained_saw (Number t ∷ Word (codes "after") ∷ Number k ∷ ts) ≡ Ok (syntax.explain_saw t k xs, rest)
+unfolding q.explained_saw q.saw_numbers
+explained_saw-of t k ts rest xs e = ap (λ o. o >>= (λ xs. Ok (syntax.explain_saw t k xs.0, xs.1))) e
+
+-- a question that asks is none of the others
+how-asks : (a : Lexemes) (x : How) → IsHow a x → (rest : Lexemes) → BeginsState rest → q.open_question (a ++ rest) ≡ q.asked_of syntax.ask q.subject (a ++ rest)
+unfolding q.open_question q.asked_of q.subject q.of_state q.how
+how-asks _ _ g.rows rest h = h.asks
+how-asks _ _ g.provenance rest h = refl
+how-asks _ _ g.explain rest h = ap (λ o. by_option o (q.asked_of syntax.ask (q.of_state q.explained) rest) q.explained_saw) h.no_saw
+how-asks _ _ g.explain_provenance rest h = refl
+how-asks _ _ (g.value a b k r i j) rest h = refl
+how-asks _ _ (g.without a xs i) rest h = refl
+
+subject-asks : (a : Lexemes) (x : Subject) → IsSubject a x → (rest : Lexemes) → q.open_question (a ++ rest) ≡ q.asked_of syntax.ask q.subject (a ++ rest)
+unfolding q.open_question
+subject-asks _ _ (g.of_state a b how state i j) rest =
+    let P : Lexemes → Type 0 = λ z. q.open_question z ≡ q.asked_of syntax.ask q.subject z in
+    subst P (sym (append_assoc a b rest)) (how-asks a how i (b ++ rest) (begins-state b state j rest))
+subject-asks _ _ (g.of_saw _ _ (g.saw t k)) rest = refl
+
+ask-complete : (a b : Lexemes) (x : Subject) (xs : Query) → IsSubject a x → IsQuery b xs → (rest : Lexemes) → EndsQuery rest
+    → q.open_question (a ++ (b ++ rest)) ≡ Ok (syntax.ask x (map capped_block xs), rest)
+ask-complete a b x xs i j rest h =
+    subject-asks a x i (b ++ rest)
+    ∙ asked-of syntax.ask q.subject (a ++ (b ++ rest)) (b ++ rest) rest x (map capped_block xs) (subject-complete a x i (b ++ rest)) (query-complete b xs j rest h)
+
+what_if-split : (a b c rest : Lexemes) → (a ++ (Word (codes "of") ∷ (b ++ c))) ++ rest ≡ a ++ (Word (codes "of") ∷ (b ++ (c ++ rest)))
+what_if-split a b c rest = simp append_assoc
 
 open_question-complete : (a : Lexemes) (x : Question) → IsOpenQuestion a x → (rest : Lexemes) → EndsQuery rest → q.open_question (a ++ rest) ≡ Ok (capped_question x, rest)
 unfolding q.open_question q.changes
 open_question-complete _ _ g.transactions rest h = refl
 open_question-complete _ _ (g.log t) rest h = refl
 open_question-complete _ _ (g.versions table) rest h = refl
-open_question-complete _ _ (g.saw t k a xs i) rest h = saw-of t k (a ++ rest) rest (map capped_block xs) (query-complete a xs i rest h)
 open_question-complete _ _ (g.changes t k) rest h = refl
 open_question-complete _ _ (g.commit_changes t) rest h = refl
+open_question-complete _ _ (g.conflicts t) rest h = refl
+open_question-complete _ _ (g.history table w cond i) rest h = history-of table (w ++ rest) rest (option_map capped cond) (condition-complete w cond i rest h.block.loose h.block.no_where)
+open_question-complete _ _ (g.when a xs i) rest h = when-of (a ++ rest) rest (map capped_block xs) (query-complete a xs i rest h)
+open_question-complete _ _ g.serial rest h = refl
 open_question-complete _ _ g.check rest h = refl
 open_question-complete _ _ (g.diff a b c first second xs i j k) rest h =
     ap q.diff (diff-split a b c rest)
     ∙ diff-of (capped_side first) (a ++ (Word (codes "to") ∷ (b ++ (c ++ rest)))) (b ++ (c ++ rest)) rest (syntax.diff (capped_side first) (capped_side second) (map capped_block xs))
     (side-complete a first i (Word (codes "to") ∷ (b ++ (c ++ rest))))
     (second_side-of (capped_side first) (capped_side second) (b ++ (c ++ rest)) (c ++ rest) rest (map capped_block xs) (side-complete b second j (c ++ rest)) (query-complete c xs k rest h))
-open_question-complete _ _ (g.causes a b kept xs i j) rest h =
-    ap q.caused (append_assoc a b rest)
-    ∙ caused-of (a ++ (b ++ rest)) (b ++ rest) rest kept (map capped_block xs) (kept-complete a kept i (b ++ rest)) (query-complete b xs j rest h)
-open_question-complete _ _ (g.ask a how state xs i) rest h = begins-ask a how state xs i rest ∙ ask-complete syntax.ask a how state xs i rest h
-open_question-complete _ _ (g.what_if a b change how state xs i j) rest h =
-    ap q.what_if (behind_of-split a b rest)
-    ∙ what_if-of (a ++ (Word (codes "of") ∷ (b ++ rest))) (b ++ rest) rest (capped_change change) (syntax.what_if (capped_change change) how state (map capped_block xs))
-    (change-complete a change i (Word (codes "of") ∷ (b ++ rest))) (ask-complete (syntax.what_if (capped_change change)) b how state xs j rest h)
+open_question-complete _ _ (g.causes a b x xs i j) rest h =
+    ap (q.asked_of syntax.causes q.kept) (append_assoc a b rest)
+    ∙ asked-of syntax.causes q.kept (a ++ (b ++ rest)) (b ++ rest) rest x (map capped_block xs) (kept-complete a x i (b ++ rest)) (query-complete b xs j rest h)
+open_question-complete _ _ (g.ask a b x xs i j) rest h = ap q.open_question (append_assoc a b rest) ∙ ask-complete a b x xs i j rest h
+open_question-complete _ _ (g.what_if a b c changes x xs i j k) rest h =
+    ap q.what_if (what_if-split a b c rest)
+    ∙ what_if-of (a ++ (Word (codes "of") ∷ (b ++ (c ++ rest)))) (b ++ (c ++ rest)) rest (map capped_change changes) (syntax.what_if (map capped_change changes) x (map capped_block xs))
+    (changes-complete a changes i (b ++ (c ++ rest)))
+    (asked-of (syntax.what_if (map capped_change changes)) q.subject (b ++ (c ++ rest)) (c ++ rest) rest x (map capped_block xs) (subject-complete b x j (c ++ rest)) (query-complete c xs k rest h))
+open_question-complete _ _ (g.explain_saw t k a xs i) rest h = explained_saw-of t k (a ++ rest) rest (map capped_block xs) (query-complete a xs i rest h)
 
 pub whole-question : (a : Lexemes) (x : Question) → Closed IsOpenQuestion a x → q.question a ≡ Ok (capped_question x, [])
 whole-question = closed-complete IsOpenQuestion capped_question q.open_question open_question-complete

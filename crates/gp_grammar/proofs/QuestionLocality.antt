@@ -9,16 +9,16 @@ use Rattle.gp_grammar.specs.declared.token_kind.TokenKind.{TokenKind}
 use Rattle.gp_grammar.specs.declared.token_kind.TokenKind.TheVariants as token
 use Rattle.gp_grammar.specs.declared.limits.TheConstants.{MAX_PATTERN_NUMBER}
 use Rattle.gp_grammar.specs.Syntax as syntax
-use Rattle.gp_grammar.specs.Syntax.{Lexemes, Bytes, Command, Point, Pattern, Rule, rule_of, Rules, How, Query, LogChange, Kept, Side, Question}
+use Rattle.gp_grammar.specs.Syntax.{Lexemes, Bytes, Command, Point, Pattern, Rule, rule_of, Rules, How, Query, LogChange, Subject, Side, Question}
 use Rattle.gp_grammar.specs.QuestionGrammar.{pattern_name}
 use Rattle.gp_grammar.specs.Parsing.{Outcome, Parser, ◌>>=◌, by_option, identifier}
-use Rattle.gp_grammar.specs.CommandParsing.{◌then◌, where_next, fail, accept, where_word, expect_word, push, separated, in_brackets, query, statement}
+use Rattle.gp_grammar.specs.CommandParsing.{◌then◌, where_next, fail, accept, where_word, expect_word, push, separated, in_brackets, condition, query, statement}
 use Rattle.gp_grammar.specs.QuestionParsing as q
 use Rattle.gp_grammar.specs.QuestionParsing.{number_if, number, pattern_of}
-use Rattle.gp_grammar.proofs.QuestionCompleteness.{after_rule, rules_from-unfolds, shrinks-left_out}
+use Rattle.gp_grammar.proofs.QuestionCompleteness.{after_rule, rules_from-unfolds, shrinks-change, shrinks-left_out}
 use Rattle.gp_grammar.proofs.Locality.{Local, local-ok, local-bind, local-err, local-expect, local-identifier, local-same}
 use Rattle.gp_grammar.proofs.LocalCombinators.{first_choice, local-zero, local-next, local-next-all, local-word-all, local-number, local-first-all, local-separated, local-in_brackets, local-closed}
-use Rattle.gp_grammar.proofs.CommandLocality.{local-query, local-statement}
+use Rattle.gp_grammar.proofs.CommandLocality.{local-condition, local-query, local-statement}
 use Rattle.std.proofs.lemmas.Option.{same_Some}
 
 abbrev pattern_choice : Lexeme → Option (Parser Pattern)
@@ -39,6 +39,21 @@ pattern-first (Sign symbol ∷ ts) = refl
 pattern-first (Number n ∷ ts) = refl
 pattern-first (Big ∷ ts) = refl
 pattern-first (Text bytes ∷ ts) = refl
+
+abbrev dropped_choice : ℕ → Lexeme → Option (Parser LogChange)
+dropped_choice x (Number k) = Some (accept (syntax.drop x k))
+dropped_choice x (Sign symbol) = None
+dropped_choice x (Word word) = None
+dropped_choice x Big = None
+dropped_choice x (Text bytes) = None
+
+dropped-first : (x : ℕ) (ts : Lexemes) → q.dropped_from x ts ≡ first_choice (dropped_choice x) (accept (syntax.drop_all x)) ts
+dropped-first x [] = refl
+dropped-first x (Number k ∷ ts) = refl
+dropped-first x (Sign symbol ∷ ts) = refl
+dropped-first x (Word word ∷ ts) = refl
+dropped-first x (Big ∷ ts) = refl
+dropped-first x (Text bytes ∷ ts) = refl
 
 module _ (t : Lexeme) (m m' : Lexemes) where
   abbrev IsLocal : {A : Type 0} → Parser A → Type 0
@@ -145,25 +160,64 @@ module _ (t : Lexeme) (m m' : Lexemes) where
   is_local-without = is_local-bind (separated q.left_out) _ (λ n. local-separated t m m' q.left_out shrinks-left_out n (is_local-left_out n))
       (λ xs. is_local-expect (codes "of") (accept (syntax.without xs)) (is_local-ok (syntax.without xs)))
 
+  is_local-explained : IsLocal q.explained
+  is_local-explained = local-word-all t m m' (codes "provenance") _ _ (is_local-expect (codes "of") (accept (syntax.explain true)) (is_local-ok (syntax.explain true))) (is_local-ok (syntax.explain false))
+
   is_local-how : IsLocal q.how
   unfolding q.how
-  is_local-how = local-word-all t m m' (codes "explain") _ _
-      (local-word-all t m m' (codes "provenance") _ _ (is_local-expect (codes "of") (accept (syntax.explain true)) (is_local-ok (syntax.explain true))) (is_local-ok (syntax.explain false)))
+  is_local-how = local-word-all t m m' (codes "explain") q.explained _ is_local-explained
       (local-word-all t m m' (codes "provenance") _ _ (is_local-expect (codes "of") (accept syntax.provenance) (is_local-ok syntax.provenance))
       (local-word-all t m m' (codes "value") q.value (where_word (codes "without") q.without (accept syntax.rows)) is_local-value
       (local-word-all t m m' (codes "without") q.without (accept syntax.rows) is_local-without (is_local-ok syntax.rows))))
 
-  is_local-ask : {A : Type 0} (question : How → Point → Query → A) → IsLocal (q.ask question)
-  unfolding q.ask
-  is_local-ask question = is_local-bind q.how _ is_local-how (λ how. is_local-bind q.state _ is_local-state (λ state.
-      is_local-bind query _ (λ n. local-query t m m' n) (λ xs. is_local-ok (question how state xs))))
+  is_local-kept_how : IsLocal q.kept_how
+  unfolding q.kept_how
+  is_local-kept_how = local-word-all t m m' (codes "without") q.without (accept syntax.rows) is_local-without (is_local-ok syntax.rows)
+
+  is_local-of_state : (how : Parser How) → IsLocal how → IsLocal (q.of_state how)
+  unfolding q.of_state
+  is_local-of_state how w = is_local-bind how _ w (λ x. is_local-bind q.state _ is_local-state (λ state. is_local-ok (syntax.of_state x state)))
+
+  is_local-saw_numbers : IsLocal q.saw_numbers
+  unfolding q.saw_numbers
+  is_local-saw_numbers = is_local-bind number _ is_local-number (λ x. is_local-expect (codes "after") _ (is_local-bind number _ is_local-number (λ k. is_local-ok (x, k))))
+
+  is_local-saw : IsLocal q.saw
+  unfolding q.saw
+  is_local-saw = is_local-bind q.saw_numbers _ is_local-saw_numbers (λ n. is_local-ok (syntax.saw n.0 n.1))
+
+  is_local-subject : IsLocal q.subject
+  unfolding q.subject
+  is_local-subject = local-word-all t m m' (codes "saw") q.saw (q.of_state q.how) is_local-saw (is_local-of_state q.how is_local-how)
+
+  is_local-kept : IsLocal q.kept
+  is_local-kept = is_local-of_state q.kept_how is_local-kept_how
+
+  is_local-side_subject : IsLocal q.side_subject
+  unfolding q.side_subject
+  is_local-side_subject = local-word-all t m m' (codes "saw") q.saw q.kept is_local-saw is_local-kept
+
+  is_local-asked_of : (question : Subject → Query → Question) (subject : Parser Subject) → IsLocal subject → IsLocal (q.asked_of question subject)
+  unfolding q.asked_of
+  is_local-asked_of question subject w = is_local-bind subject _ w (λ x. is_local-bind query _ (λ n. local-query t m m' n) (λ xs. is_local-ok (question x xs)))
 
   is_local-by_statement : IsLocal q.by_statement
   is_local-by_statement = is_local-expect (codes "by") (in_brackets statement) (λ n. local-in_brackets t m m' statement n (local-statement t m m' n))
 
+  dropped-chosen : (x : ℕ) (n : ℕ) (y : Lexeme) (p : Parser LogChange) → dropped_choice x y ≡ Some p → Local t m m' n p
+  dropped-chosen x n (Number k) p e =
+      let P : Parser LogChange → Type 0 = λ z. Local t m m' n z in subst P (same_Some (accept (syntax.drop x k)) p e) (local-ok t m m' n (syntax.drop x k))
+  dropped-chosen x n (Sign symbol) p e = cc
+  dropped-chosen x n (Word word) p e = cc
+  dropped-chosen x n Big p e = cc
+  dropped-chosen x n (Text bytes) p e = cc
+
+  is_local-dropped_from : (x : ℕ) → IsLocal (q.dropped_from x)
+  is_local-dropped_from x = local-first-all t m m' (q.dropped_from x) (dropped_choice x) (accept (syntax.drop_all x)) (dropped-first x) (dropped-chosen x) (is_local-ok (syntax.drop_all x))
+
   is_local-dropped : IsLocal q.dropped
   unfolding q.dropped
-  is_local-dropped = is_local-bind number _ is_local-number (λ x. is_local-bind number _ is_local-number (λ k. is_local-ok (syntax.drop x k)))
+  is_local-dropped = is_local-bind number _ is_local-number (λ x. is_local-dropped_from x)
 
   is_local-replaced : IsLocal q.replaced
   unfolding q.replaced
@@ -179,27 +233,22 @@ module _ (t : Lexeme) (m m' : Lexemes) where
   is_local-change = local-word-all t m m' (codes "drop") q.dropped (where_word (codes "replace") q.replaced (expect_word (codes "add") q.added)) is_local-dropped
       (local-word-all t m m' (codes "replace") q.replaced (expect_word (codes "add") q.added) is_local-replaced (is_local-expect (codes "add") q.added is_local-added))
 
+  is_local-changes_of : IsLocal q.changes_of
+  is_local-changes_of n = local-separated t m m' q.change shrinks-change n (is_local-change n)
+
   is_local-what_if : IsLocal q.what_if
   unfolding q.what_if
-  is_local-what_if = is_local-bind q.change _ is_local-change
-      (λ change. is_local-expect (codes "of") (q.ask (syntax.what_if change)) (is_local-ask (syntax.what_if change)))
-
-  is_local-kept_how : IsLocal q.kept_how
-  unfolding q.kept_how
-  is_local-kept_how = local-word-all t m m' (codes "without") q.without (accept syntax.rows) is_local-without (is_local-ok syntax.rows)
-
-  is_local-kept : IsLocal q.kept
-  unfolding q.kept
-  is_local-kept = is_local-bind q.kept_how _ is_local-kept_how (λ how. is_local-bind q.state _ is_local-state (λ state. is_local-ok (q.kept_of how state)))
+  is_local-what_if = is_local-bind q.changes_of _ is_local-changes_of
+      (λ changes. is_local-expect (codes "of") (q.asked_of (syntax.what_if changes) q.subject) (is_local-asked_of (syntax.what_if changes) q.subject is_local-subject))
 
   is_local-as_is_side : IsLocal q.as_is_side
   unfolding q.as_is_side
-  is_local-as_is_side = is_local-bind q.kept _ is_local-kept (λ kept. is_local-ok (syntax.as_is kept))
+  is_local-as_is_side = is_local-bind q.side_subject _ is_local-side_subject (λ x. is_local-ok (syntax.as_is x))
 
   is_local-changed_side : IsLocal q.changed_side
   unfolding q.changed_side
-  is_local-changed_side = is_local-bind q.change _ is_local-change
-      (λ change. is_local-expect (codes "of") _ (is_local-bind q.kept _ is_local-kept (λ kept. is_local-ok (syntax.changed change kept))))
+  is_local-changed_side = is_local-bind q.changes_of _ is_local-changes_of
+      (λ changes. is_local-expect (codes "of") _ (is_local-bind q.side_subject _ is_local-side_subject (λ x. is_local-ok (syntax.changed changes x))))
 
   is_local-side : IsLocal q.side
   unfolding q.side
@@ -213,17 +262,8 @@ module _ (t : Lexeme) (m m' : Lexemes) where
   unfolding q.diff
   is_local-diff = is_local-bind q.side _ is_local-side (λ first. is_local-expect (codes "to") (q.second_side first) (is_local-second_side first))
 
-  is_local-caused : IsLocal q.caused
-  unfolding q.caused
-  is_local-caused = is_local-bind q.kept _ is_local-kept (λ kept. is_local-bind query _ (λ n. local-query t m m' n) (λ xs. is_local-ok (syntax.causes kept xs)))
-
   is_local-versions : IsLocal q.versions_of
   is_local-versions = is_local-expect (codes "of") _ (is_local-bind identifier _ (λ n. local-identifier t m m' n) (λ table. is_local-ok (syntax.versions table)))
-
-  is_local-saw : IsLocal q.saw
-  unfolding q.saw
-  is_local-saw = is_local-bind number _ is_local-number (λ x. is_local-expect (codes "after") _ (is_local-bind number _ is_local-number (λ k.
-      is_local-bind query _ (λ n. local-query t m m' n) (λ xs. is_local-ok (syntax.saw x k xs)))))
 
   is_local-changes : IsLocal q.changes
   unfolding q.changes
@@ -231,18 +271,42 @@ module _ (t : Lexeme) (m m' : Lexemes) where
       (λ rest. number rest >>= (λ k. Ok (syntax.changes x k.0, k.1))) (is_local-ok (syntax.commit_changes x))
       (is_local-bind number _ is_local-number (λ k. is_local-ok (syntax.changes x k))))
 
+  is_local-history : IsLocal q.history
+  unfolding q.history
+  is_local-history = is_local-bind identifier _ (λ n. local-identifier t m m' n) (λ table.
+      is_local-bind condition _ (λ n. local-condition t m m' n) (λ cond. is_local-ok (syntax.history table cond)))
+
+  is_local-when : IsLocal q.when
+  unfolding q.when
+  is_local-when = is_local-bind query _ (λ n. local-query t m m' n) (λ xs. is_local-ok (syntax.when xs))
+
+  is_local-explained_saw : IsLocal q.explained_saw
+  unfolding q.explained_saw
+  is_local-explained_saw = is_local-bind q.saw_numbers _ is_local-saw_numbers (λ n. is_local-bind query _ (λ n. local-query t m m' n) (λ xs. is_local-ok (syntax.explain_saw n.0 n.1 xs)))
+
+  is_local-from_explain : IsLocal q.from_explain
+  is_local-from_explain = local-word-all t m m' (codes "explain") (where_word (codes "saw") q.explained_saw (q.asked_of syntax.ask (q.of_state q.explained))) (q.asked_of syntax.ask q.subject)
+      (local-word-all t m m' (codes "saw") q.explained_saw (q.asked_of syntax.ask (q.of_state q.explained)) is_local-explained_saw
+      (is_local-asked_of syntax.ask (q.of_state q.explained) (is_local-of_state q.explained is_local-explained)))
+      (is_local-asked_of syntax.ask q.subject is_local-subject)
+
   is_local-open_question : IsLocal q.open_question
   unfolding q.open_question
   is_local-open_question = local-word-all t m m' (codes "log") (λ ts. number ts >>= (λ t. Ok (syntax.log t.0, t.1))) q.from_versions
       (is_local-bind number _ is_local-number (λ x. is_local-ok (syntax.log x)))
       (local-word-all t m m' (codes "versions") q.versions_of q.from_transactions is_local-versions
-      (local-word-all t m m' (codes "transactions") (accept syntax.transactions) q.from_saw (is_local-ok syntax.transactions)
-      (local-word-all t m m' (codes "saw") q.saw q.from_changes is_local-saw
-      (local-word-all t m m' (codes "changes") q.changes q.from_check is_local-changes
+      (local-word-all t m m' (codes "transactions") (accept syntax.transactions) q.from_changes (is_local-ok syntax.transactions)
+      (local-word-all t m m' (codes "changes") q.changes q.from_conflicts is_local-changes
+      (local-word-all t m m' (codes "conflicts") (λ ts. number ts >>= (λ t. Ok (syntax.conflicts t.0, t.1))) q.from_history
+      (is_local-bind number _ is_local-number (λ x. is_local-ok (syntax.conflicts x)))
+      (local-word-all t m m' (codes "history") (expect_word (codes "of") q.history) q.from_when (is_local-expect (codes "of") q.history is_local-history)
+      (local-next-all t m m' s.When q.when q.from_serial is_local-when
+      (local-word-all t m m' (codes "serial") (accept syntax.serial) q.from_check (is_local-ok syntax.serial)
       (local-word-all t m m' (codes "check") (accept syntax.check) q.from_diff (is_local-ok syntax.check)
       (local-word-all t m m' (codes "diff") q.diff q.from_causes is_local-diff
-      (local-word-all t m m' (codes "causes") (expect_word (codes "of") q.caused) q.from_what_if (is_local-expect (codes "of") q.caused is_local-caused)
-      (local-word-all t m m' (codes "whatif") q.what_if (q.ask syntax.ask) is_local-what_if (is_local-ask syntax.ask)))))))))
+      (local-word-all t m m' (codes "causes") (expect_word (codes "of") (q.asked_of syntax.causes q.kept)) q.from_what_if
+      (is_local-expect (codes "of") (q.asked_of syntax.causes q.kept) (is_local-asked_of syntax.causes q.kept is_local-kept))
+      (local-word-all t m m' (codes "whatif") q.what_if q.from_explain is_local-what_if is_local-from_explain)))))))))))
 
   pub local-question : IsLocal q.question
   local-question n = local-closed t m m' q.open_question n (is_local-open_question n)

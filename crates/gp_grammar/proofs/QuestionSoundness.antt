@@ -1,5 +1,5 @@
 -- The parser of questions is sound, and what it leaves before a fault begins a question.
-use Rattle.std.proofs.Common.{◌≡◌, ℕ, zero, suc, ◌≤◌, Bool, true, false, cond, List, [], ◌∷◌, ◌++◌, length, Option, Some, None, Ok, Err, refl, sym, ap, subst, ◌∙◌, append_assoc}
+use Rattle.std.proofs.Common.{◌≡◌, ℕ, zero, suc, ◌≤◌, Bool, true, false, cond, List, [], ◌∷◌, ◌++◌, length, map, Option, Some, None, Ok, Err, refl, sym, ap, subst, ◌∙◌, append_assoc}
 use Rattle.std.specs.Prelude.{codes, nat_le}
 use Rattle.std.proofs.lemmas.List.{append-nil}
 use Rattle.std.proofs.lemmas.Bool.{leb-true}
@@ -10,21 +10,21 @@ use Rattle.gp_grammar.specs.declared.token_kind.TokenKind.{TokenKind}
 use Rattle.gp_grammar.specs.declared.token_kind.TokenKind.TheVariants as token
 use Rattle.gp_grammar.specs.declared.limits.TheConstants.{MAX_PATTERN_NUMBER}
 use Rattle.gp_grammar.specs.Syntax as syntax
-use Rattle.gp_grammar.specs.Syntax.{Lexemes, Bytes, Command, Point, Pattern, Rule, rule_of, Rules, How, Query, LogChange, Kept, Side, Question}
+use Rattle.gp_grammar.specs.Syntax.{Lexemes, Bytes, Term, Command, Point, Pattern, Rule, rule_of, Rules, How, Query, LogChange, Subject, Side, Question}
 use Rattle.gp_grammar.specs.Capping.{capped_change, capped_side, capped_question}
 use Rattle.gp_grammar.specs.CommandGrammar as l
 use Rattle.gp_grammar.specs.CommandGrammar.{IsList, comma, Closed}
 use Rattle.gp_grammar.specs.QuestionGrammar as g
-use Rattle.gp_grammar.specs.QuestionGrammar.{IsPoint, IsSemiring, IsPattern, IsRule, IsRules, IsLeftOut, IsHow, IsAsk, IsChange, IsKept, IsKeptHow, IsSide, IsOpenQuestion, pattern_name}
-use Rattle.gp_grammar.specs.Parsing.{Outcome, ◌>>=◌, by_option}
-use Rattle.gp_grammar.specs.CommandParsing.{◌then◌, where_next, fail, accept, where_word, expect_word, push, separated, in_brackets, query, statement}
+use Rattle.gp_grammar.specs.QuestionGrammar.{IsPoint, IsSemiring, IsPattern, IsRule, IsRules, IsLeftOut, IsHow, IsSaw, IsSubject, IsChange, IsChanges, IsKept, IsKeptHow, IsSideSubject, IsSide, IsOpenQuestion, pattern_name}
+use Rattle.gp_grammar.specs.Parsing.{Outcome, Parser, ◌>>=◌, by_option, identifier}
+use Rattle.gp_grammar.specs.CommandParsing.{◌then◌, where_next, fail, accept, where_word, expect_word, push, separated, in_brackets, condition, query, statement}
 use Rattle.gp_grammar.specs.QuestionParsing as q
 use Rattle.gp_grammar.specs.QuestionParsing.{number_if, number, pattern_of}
 use Rattle.gp_grammar.specs.Laws.{Built}
-use Rattle.gp_grammar.proofs.CommandBuilding.{BuildsQuery, BuildsStatement}
+use Rattle.gp_grammar.proofs.CommandBuilding.{BuildsWhere, BuildsQuery, BuildsStatement, list-built}
 use Rattle.gp_grammar.proofs.Soundness.{Sentence, Sound, sound-ok, sound-err, sound-shift, sound-bind, sound-phrase, expect-sound, identifier-sound}
 use Rattle.gp_grammar.proofs.SoundCombinators.{next-sound, word-sound, expect_word-sound, separated-sound, in_brackets-sound, closed-sound}
-use Rattle.gp_grammar.proofs.CommandSoundness.{query-sound, statement-sound}
+use Rattle.gp_grammar.proofs.CommandSoundness.{condition-sound, query-sound, statement-sound}
 
 abbrev pub BuildsQuestion : Lexemes → Question → Type 0
 BuildsQuestion = Built IsOpenQuestion capped_question
@@ -225,7 +225,7 @@ kept_without-sound ts = sound-bind (IsList comma IsLeftOut) (λ b y. IsKeptHow (
     expect_word-sound (codes "of") (λ b y. IsKeptHow (Word (codes "without") ∷ (a ++ b)) y) (accept (syntax.without xs)) ts1
     (λ ts2. sound-ok _ ts2 (syntax.without xs) (g.remaining a xs i)))
 
--- ---- questions
+-- ---- what is asked for
 
 value-sound : (ts : Lexemes) → Sound (λ b y. IsHow (Word (codes "value") ∷ b) y) ts (q.value ts)
 unfolding q.value
@@ -235,49 +235,106 @@ value-sound ts = expect_word-sound (codes "in") (λ b y. IsHow (Word (codes "val
     expect_word-sound (codes "of") (λ c y. IsHow (Word (codes "value") ∷ Word (codes "in") ∷ (a ++ (b ++ c))) y) (accept (syntax.value k r.rules r.other)) ts3
     (λ ts4. sound-ok _ ts4 (syntax.value k r.rules r.other) (g.value a b k r i j)))))
 
+explained-sound : (ts : Lexemes) → Sound (λ b y. IsHow (Word (codes "explain") ∷ b) y) ts (q.explained ts)
+explained-sound ts = word-sound (codes "provenance") (λ b y. IsHow (Word (codes "explain") ∷ b) y) (expect_word (codes "of") (accept (syntax.explain true))) (accept (syntax.explain false)) ts
+    (λ ts1. expect_word-sound (codes "of") (λ b y. IsHow (Word (codes "explain") ∷ Word (codes "provenance") ∷ b) y) (accept (syntax.explain true)) ts1
+    (λ ts2. sound-ok _ ts2 (syntax.explain true) g.explain_provenance))
+    (sound-ok _ ts (syntax.explain false) g.explain)
+
 how-sound : (ts : Lexemes) → Sound IsHow ts (q.how ts)
 unfolding q.how
 how-sound ts =
-    word-sound (codes "explain") IsHow (where_word (codes "provenance") (expect_word (codes "of") (accept (syntax.explain true))) (accept (syntax.explain false)))
+    word-sound (codes "explain") IsHow q.explained
     (where_word (codes "provenance") (expect_word (codes "of") (accept syntax.provenance))
-    (where_word (codes "value") q.value (where_word (codes "without") q.without (accept syntax.rows)))) ts
-    (λ ts1. word-sound (codes "provenance") (λ b y. IsHow (Word (codes "explain") ∷ b) y) (expect_word (codes "of") (accept (syntax.explain true))) (accept (syntax.explain false)) ts1
-    (λ ts2. expect_word-sound (codes "of") (λ b y. IsHow (Word (codes "explain") ∷ Word (codes "provenance") ∷ b) y) (accept (syntax.explain true)) ts2
-    (λ ts3. sound-ok _ ts3 (syntax.explain true) g.explain_provenance))
-    (sound-ok _ ts1 (syntax.explain false) g.explain))
+    (where_word (codes "value") q.value (where_word (codes "without") q.without (accept syntax.rows)))) ts explained-sound
     (word-sound (codes "provenance") IsHow (expect_word (codes "of") (accept syntax.provenance))
     (where_word (codes "value") q.value (where_word (codes "without") q.without (accept syntax.rows))) ts
     (λ ts1. expect_word-sound (codes "of") (λ b y. IsHow (Word (codes "provenance") ∷ b) y) (accept syntax.provenance) ts1 (λ ts2. sound-ok _ ts2 syntax.provenance g.provenance))
     (word-sound (codes "value") IsHow q.value (where_word (codes "without") q.without (accept syntax.rows)) ts value-sound
     (word-sound (codes "without") IsHow q.without (accept syntax.rows) ts without-sound (sound-ok IsHow ts syntax.rows g.rows))))
 
--- what is built with how, state and query, where the parser gives them to `question`
-ask-sound : {A : Type 0} (question : How → Point → Query → A) (Q : Lexemes → A → Type 0)
-    → ((a b c : Lexemes) (how : How) (state : Point) (xs : Query) → IsHow a how → IsPoint b state → BuildsQuery c xs → Q (a ++ (b ++ c)) (question how state xs))
-    → (ts : Lexemes) → Sound Q ts (q.ask question ts)
-unfolding q.ask
-ask-sound question Q build ts = sound-bind IsHow Q ts (q.how ts) _ (how-sound ts) (λ a ts1 how i.
-    sound-bind IsPoint (λ b y. Q (a ++ b) y) ts1 (q.state ts1) _ (state-sound ts1) (λ b ts2 state j.
-    sound-bind BuildsQuery (λ c y. Q (a ++ (b ++ c)) y) ts2 (query ts2) _ (query-sound ts2)
-    (λ c ts3 xs k. sound-ok _ ts3 (question how state xs) (let z : c ++ [] ≡ c = append-nil c in rw z (build a b c how state xs i j k)))))
+kept_how-sound : (ts : Lexemes) → Sound IsKeptHow ts (q.kept_how ts)
+unfolding q.kept_how
+kept_how-sound ts = word-sound (codes "without") IsKeptHow q.without (accept syntax.rows) ts kept_without-sound (sound-ok IsKeptHow ts syntax.rows g.all)
 
-asks : (a b c : Lexemes) (how : How) (state : Point) (xs : Query) → IsHow a how → IsPoint b state → BuildsQuery c xs → BuildsQuestion (a ++ (b ++ c)) (syntax.ask how state xs)
-asks a b c how state xs i j k = record {
-  tree = syntax.ask how state k.tree;
-  is = g.ask (a ++ (b ++ c)) how state k.tree (g.asked a b c how state k.tree i j k.is);
-  same = ap (λ z. syntax.ask how state z) k.same;
-}
+-- ---- subjects
+
+-- a state after what is asked for of it, by the phrases of that
+of_state-sound : (Asks : Lexemes → How → Type 0) (how : Parser How) → ((ts : Lexemes) → Sound Asks ts (how ts)) → (Q : Lexemes → Subject → Type 0)
+    → ((a b : Lexemes) (how : How) (state : Point) → Asks a how → IsPoint b state → Q (a ++ b) (syntax.of_state how state))
+    → (ts : Lexemes) → Sound Q ts (q.of_state how ts)
+unfolding q.of_state
+of_state-sound Asks how sound Q build ts = sound-bind Asks Q ts (how ts) _ (sound ts) (λ a ts1 x i.
+    sound-bind IsPoint (λ b y. Q (a ++ b) y) ts1 (q.state ts1) _ (state-sound ts1)
+    (λ b ts2 state j. sound-ok _ ts2 (syntax.of_state x state) (let z : b ++ [] ≡ b = append-nil b in rw z (build a b x state i j))))
+
+abbrev IsNumbers : Lexemes → ℕ × ℕ → Type 0
+IsNumbers a n = a ≡ Number n.0 ∷ Word (codes "after") ∷ Number n.1 ∷ []
+
+saw_numbers-one : (ts : Lexemes) → Sound IsNumbers ts (q.saw_numbers ts)
+unfolding q.saw_numbers
+saw_numbers-one ts = number-sound IsNumbers ts _ (λ t ts1. expect_word-sound (codes "after") (λ b y. IsNumbers (Number t ∷ b) y) _ ts1 (λ ts2.
+    number-sound (λ b y. IsNumbers (Number t ∷ Word (codes "after") ∷ b) y) ts2 _ (λ k ts3. sound-ok _ ts3 (t, k) refl)))
+
+saw_numbers-sound : {B : Type 0} (Q : Lexemes → B → Type 0) (ts : Lexemes) (f : (ℕ × ℕ) × Lexemes → Outcome (B × Lexemes))
+    → ((t k : ℕ) (rest : Lexemes) → Sound (λ b y. Q (Number t ∷ Word (codes "after") ∷ Number k ∷ b) y) rest (f ((t, k), rest))) → Sound Q ts (q.saw_numbers ts >>= f)
+saw_numbers-sound Q ts f k = sound-bind IsNumbers Q ts (q.saw_numbers ts) f (saw_numbers-one ts)
+    (λ used rest n h. let F : Lexemes → Type 0 = λ u. Sound (λ b y. Q (u ++ b) y) rest (f (n, rest)) in subst F (sym h) (k n.0 n.1 rest))
+
+saw-sound : (ts : Lexemes) → Sound (λ b y. IsSaw (Word (codes "saw") ∷ b) y) ts (q.saw ts)
+unfolding q.saw
+saw-sound ts = saw_numbers-sound (λ b y. IsSaw (Word (codes "saw") ∷ b) y) ts _ (λ t k ts1. sound-ok _ ts1 (syntax.saw t k) (g.saw t k))
+
+subject-sound : (ts : Lexemes) → Sound IsSubject ts (q.subject ts)
+unfolding q.subject
+subject-sound ts = word-sound (codes "saw") IsSubject q.saw (q.of_state q.how) ts
+    (λ ts1. sound-phrase (λ b y. IsSaw (Word (codes "saw") ∷ b) y) (λ b y. IsSubject (Word (codes "saw") ∷ b) y) ts1 (q.saw ts1) (λ b y i. g.of_saw (Word (codes "saw") ∷ b) y i) (saw-sound ts1))
+    (of_state-sound IsHow q.how how-sound IsSubject (λ a b how state i j. g.of_state a b how state i j) ts)
+
+kept-sound : (ts : Lexemes) → Sound IsKept ts (q.kept ts)
+kept-sound ts = of_state-sound IsKeptHow q.kept_how kept_how-sound IsKept (λ a b how state i j. g.kept a b how state i j) ts
+
+side_subject-sound : (ts : Lexemes) → Sound IsSideSubject ts (q.side_subject ts)
+unfolding q.side_subject
+side_subject-sound ts = word-sound (codes "saw") IsSideSubject q.saw q.kept ts
+    (λ ts1. sound-phrase (λ b y. IsSaw (Word (codes "saw") ∷ b) y) (λ b y. IsSideSubject (Word (codes "saw") ∷ b) y) ts1 (q.saw ts1) (λ b y i. g.saw_side (Word (codes "saw") ∷ b) y i) (saw-sound ts1))
+    (sound-phrase IsKept IsSideSubject ts (q.kept ts) (λ b y i. g.kept_side b y i) (kept-sound ts))
+
+-- a query after its subject
+asked_of-sound : (question : Subject → Query → Question) (Is : Lexemes → Subject → Type 0) (subject : Parser Subject) → ((ts : Lexemes) → Sound Is ts (subject ts))
+    → (Q : Lexemes → Question → Type 0) → ((a b : Lexemes) (x : Subject) (xs : Query) → Is a x → BuildsQuery b xs → Q (a ++ b) (question x xs))
+    → (ts : Lexemes) → Sound Q ts (q.asked_of question subject ts)
+unfolding q.asked_of
+asked_of-sound question Is subject sound Q build ts = sound-bind Is Q ts (subject ts) _ (sound ts) (λ a ts1 x i.
+    sound-bind BuildsQuery (λ b y. Q (a ++ b) y) ts1 (query ts1) _ (query-sound ts1)
+    (λ b ts2 xs j. sound-ok _ ts2 (question x xs) (let z : b ++ [] ≡ b = append-nil b in rw z (build a b x xs i j))))
+
+asks : (a b : Lexemes) (x : Subject) (xs : Query) → IsSubject a x → BuildsQuery b xs → BuildsQuestion (a ++ b) (syntax.ask x xs)
+asks a b x xs i j = record { tree = syntax.ask x j.tree; is = g.ask a b x j.tree i j.is; same = ap (λ z. syntax.ask x z) j.same }
+
+causes : (a b : Lexemes) (x : Subject) (xs : Query) → IsKept a x → BuildsQuery b xs
+    → BuildsQuestion (Word (codes "causes") ∷ Word (codes "of") ∷ (a ++ b)) (syntax.causes x xs)
+causes a b x xs i j = record { tree = syntax.causes x j.tree; is = g.causes a b x j.tree i j.is; same = ap (λ z. syntax.causes x z) j.same }
 
 -- ---- changes
 
-abbrev BuildsChange : Lexemes → LogChange → Type 0
+abbrev pub BuildsChange : Lexemes → LogChange → Type 0
 BuildsChange = Built IsChange capped_change
+
+all_dropped : (t : ℕ) → BuildsChange (Word (codes "drop") ∷ Number t ∷ []) (syntax.drop_all t)
+all_dropped t = record { tree = syntax.drop_all t; is = g.drop_all t; same = refl }
+
+dropped_from-sound : (t : ℕ) (ts : Lexemes) → Sound (λ b y. BuildsChange (Word (codes "drop") ∷ Number t ∷ b) y) ts (q.dropped_from t ts)
+dropped_from-sound t [] = sound-ok _ _ (syntax.drop_all t) (all_dropped t)
+dropped_from-sound t (Number k ∷ ts) = record { used = Number k ∷ []; split = refl; is = record { tree = syntax.drop t k; is = g.drop t k; same = refl } }
+dropped_from-sound t (Sign symbol ∷ ts) = sound-ok _ _ (syntax.drop_all t) (all_dropped t)
+dropped_from-sound t (Word word ∷ ts) = sound-ok _ _ (syntax.drop_all t) (all_dropped t)
+dropped_from-sound t (Big ∷ ts) = sound-ok _ _ (syntax.drop_all t) (all_dropped t)
+dropped_from-sound t (Text bytes ∷ ts) = sound-ok _ _ (syntax.drop_all t) (all_dropped t)
 
 dropped-sound : (ts : Lexemes) → Sound (λ b y. BuildsChange (Word (codes "drop") ∷ b) y) ts (q.dropped ts)
 unfolding q.dropped
-dropped-sound ts = number-sound (λ b y. BuildsChange (Word (codes "drop") ∷ b) y) ts _ (λ t ts1.
-    number-sound (λ b y. BuildsChange (Word (codes "drop") ∷ Number t ∷ b) y) ts1 _
-    (λ k ts2. sound-ok _ ts2 (syntax.drop t k) (record { tree = syntax.drop t k; is = g.drop t k; same = refl })))
+dropped-sound ts = number-sound (λ b y. BuildsChange (Word (codes "drop") ∷ b) y) ts _ (λ t ts1. dropped_from-sound t ts1)
 
 -- BY and a statement in brackets
 data BuildsBy : Lexemes → Command → Type 0 where
@@ -310,63 +367,59 @@ added-sound ts = number-sound (λ b y. BuildsChange (Word (codes "add") ∷ b) y
     sound-bind BuildsBy (λ b y. BuildsChange (Word (codes "add") ∷ Number t ∷ b) y) ts1 (q.by_statement ts1) _ (by_statement-sound ts1)
     (λ a ts2 x i. sound-ok _ ts2 (syntax.add t x) (let z : a ++ [] ≡ a = append-nil a in rw z (added t a x i))))
 
-change-sound : (ts : Lexemes) → Sound BuildsChange ts (q.change ts)
+pub change-sound : (ts : Lexemes) → Sound BuildsChange ts (q.change ts)
 unfolding q.change
 change-sound ts = word-sound (codes "drop") BuildsChange q.dropped (where_word (codes "replace") q.replaced (expect_word (codes "add") q.added)) ts dropped-sound
     (word-sound (codes "replace") BuildsChange q.replaced (expect_word (codes "add") q.added) ts replaced-sound
     (expect_word-sound (codes "add") BuildsChange q.added ts added-sound))
 
-changes : (a : Lexemes) (change : LogChange) → BuildsChange a change → (b c d : Lexemes) (how : How) (state : Point) (xs : Query) → IsHow b how → IsPoint c state → BuildsQuery d xs
-    → BuildsQuestion (Word (codes "whatif") ∷ (a ++ (Word (codes "of") ∷ (b ++ (c ++ d))))) (syntax.what_if change how state xs)
-changes a change i b c d how state xs j k l = record {
-  tree = syntax.what_if i.tree how state l.tree;
-  is = g.what_if a (b ++ (c ++ d)) i.tree how state l.tree i.is (g.asked b c d how state l.tree j k l.is);
-  same = ap (λ z. syntax.what_if z how state xs) i.same ∙ ap (λ z. syntax.what_if (capped_change i.tree) how state z) l.same;
+abbrev BuildsChanges : Lexemes → List LogChange → Type 0
+BuildsChanges = Built IsChanges (map capped_change)
+
+changes_of-sound : (ts : Lexemes) → Sound BuildsChanges ts (q.changes_of ts)
+changes_of-sound ts = sound-phrase (IsList comma BuildsChange) BuildsChanges ts (q.changes_of ts) (λ a xs i. list-built i) (separated-sound BuildsChange q.change change-sound ts)
+
+what_ifs : (a : Lexemes) (changes : List LogChange) → BuildsChanges a changes → (b c : Lexemes) (x : Subject) (xs : Query) → IsSubject b x → BuildsQuery c xs
+    → BuildsQuestion (Word (codes "whatif") ∷ (a ++ (Word (codes "of") ∷ (b ++ c)))) (syntax.what_if changes x xs)
+what_ifs a changes i b c x xs j k = record {
+  tree = syntax.what_if i.tree x k.tree;
+  is = g.what_if a b c i.tree x k.tree i.is j k.is;
+  same = ap (λ z. syntax.what_if z x xs) i.same ∙ ap (λ z. syntax.what_if (map capped_change i.tree) x z) k.same;
 }
 
 what_if-sound : (ts : Lexemes) → Sound (λ b y. BuildsQuestion (Word (codes "whatif") ∷ b) y) ts (q.what_if ts)
 unfolding q.what_if
-what_if-sound ts = sound-bind BuildsChange (λ b y. BuildsQuestion (Word (codes "whatif") ∷ b) y) ts (q.change ts) _ (change-sound ts) (λ a ts1 change i.
-    expect_word-sound (codes "of") (λ b y. BuildsQuestion (Word (codes "whatif") ∷ (a ++ b)) y) (q.ask (syntax.what_if change)) ts1 (λ ts2.
-    ask-sound (syntax.what_if change) (λ b y. BuildsQuestion (Word (codes "whatif") ∷ (a ++ (Word (codes "of") ∷ b))) y) (changes a change i) ts2))
+what_if-sound ts = sound-bind BuildsChanges (λ b y. BuildsQuestion (Word (codes "whatif") ∷ b) y) ts (q.changes_of ts) _ (changes_of-sound ts) (λ a ts1 changes i.
+    expect_word-sound (codes "of") (λ b y. BuildsQuestion (Word (codes "whatif") ∷ (a ++ b)) y) (q.asked_of (syntax.what_if changes) q.subject) ts1 (λ ts2.
+    asked_of-sound (syntax.what_if changes) IsSubject q.subject subject-sound (λ b y. BuildsQuestion (Word (codes "whatif") ∷ (a ++ (Word (codes "of") ∷ b))) y) (what_ifs a changes i) ts2))
 
--- ---- states of which some rows are left, and sides
-
-kept_how-sound : (ts : Lexemes) → Sound IsKeptHow ts (q.kept_how ts)
-unfolding q.kept_how
-kept_how-sound ts = word-sound (codes "without") IsKeptHow q.without (accept syntax.rows) ts kept_without-sound (sound-ok IsKeptHow ts syntax.rows g.all)
-
-kept-sound : (ts : Lexemes) → Sound IsKept ts (q.kept ts)
-unfolding q.kept
-kept-sound ts = sound-bind IsKeptHow IsKept ts (q.kept_how ts) _ (kept_how-sound ts) (λ a ts1 how i.
-    sound-bind IsPoint (λ b y. IsKept (a ++ b) y) ts1 (q.state ts1) _ (state-sound ts1)
-    (λ b ts2 state j. sound-ok _ ts2 (q.kept_of how state) (let z : b ++ [] ≡ b = append-nil b in rw z (g.kept a b how state i j))))
+-- ---- sides
 
 abbrev BuildsSide : Lexemes → Side → Type 0
 BuildsSide = Built IsSide capped_side
 
 as_is-sound : (ts : Lexemes) → Sound BuildsSide ts (q.as_is_side ts)
 unfolding q.as_is_side
-as_is-sound ts = sound-bind IsKept BuildsSide ts (q.kept ts) _ (kept-sound ts)
-    (λ a ts1 kept i. sound-ok _ ts1 (syntax.as_is kept) (let z : a ++ [] ≡ a = append-nil a in rw z (as_is a kept i)))
+as_is-sound ts = sound-bind IsSideSubject BuildsSide ts (q.side_subject ts) _ (side_subject-sound ts)
+    (λ a ts1 x i. sound-ok _ ts1 (syntax.as_is x) (let z : a ++ [] ≡ a = append-nil a in rw z (as_is a x i)))
   where
-    as_is : (a : Lexemes) (kept : Kept) → IsKept a kept → BuildsSide a (syntax.as_is kept)
-    as_is a kept i = record { tree = syntax.as_is kept; is = g.as_is a kept i; same = refl }
+    as_is : (a : Lexemes) (x : Subject) → IsSideSubject a x → BuildsSide a (syntax.as_is x)
+    as_is a x i = record { tree = syntax.as_is x; is = g.as_is a x i; same = refl }
 
-changed : (a b : Lexemes) (change : LogChange) (kept : Kept) → BuildsChange a change → IsKept b kept
-    → BuildsSide (Word (codes "whatif") ∷ (a ++ (Word (codes "of") ∷ b))) (syntax.changed change kept)
-changed a b change kept i j = record {
-  tree = syntax.changed i.tree kept;
-  is = g.changed a b i.tree kept i.is j;
-  same = ap (λ z. syntax.changed z kept) i.same;
+changed : (a b : Lexemes) (changes : List LogChange) (x : Subject) → BuildsChanges a changes → IsSideSubject b x
+    → BuildsSide (Word (codes "whatif") ∷ (a ++ (Word (codes "of") ∷ b))) (syntax.changed changes x)
+changed a b changes x i j = record {
+  tree = syntax.changed i.tree x;
+  is = g.changed a b i.tree x i.is j;
+  same = ap (λ z. syntax.changed z x) i.same;
 }
 
 changed-sound : (ts : Lexemes) → Sound (λ b y. BuildsSide (Word (codes "whatif") ∷ b) y) ts (q.changed_side ts)
 unfolding q.changed_side
-changed-sound ts = sound-bind BuildsChange (λ b y. BuildsSide (Word (codes "whatif") ∷ b) y) ts (q.change ts) _ (change-sound ts) (λ a ts1 change i.
+changed-sound ts = sound-bind BuildsChanges (λ b y. BuildsSide (Word (codes "whatif") ∷ b) y) ts (q.changes_of ts) _ (changes_of-sound ts) (λ a ts1 changes i.
     expect_word-sound (codes "of") (λ b y. BuildsSide (Word (codes "whatif") ∷ (a ++ b)) y) _ ts1 (λ ts2.
-    sound-bind IsKept (λ b y. BuildsSide (Word (codes "whatif") ∷ (a ++ (Word (codes "of") ∷ b))) y) ts2 (q.kept ts2) _ (kept-sound ts2)
-    (λ b ts3 kept j. sound-ok _ ts3 (syntax.changed change kept) (let z : b ++ [] ≡ b = append-nil b in rw z (changed a b change kept i j)))))
+    sound-bind IsSideSubject (λ b y. BuildsSide (Word (codes "whatif") ∷ (a ++ (Word (codes "of") ∷ b))) y) ts2 (q.side_subject ts2) _ (side_subject-sound ts2)
+    (λ b ts3 x j. sound-ok _ ts3 (syntax.changed changes x) (let z : b ++ [] ≡ b = append-nil b in rw z (changed a b changes x i j)))))
 
 side-sound : (ts : Lexemes) → Sound BuildsSide ts (q.side ts)
 unfolding q.side
@@ -395,33 +448,7 @@ unfolding q.diff
 diff-sound ts = sound-bind BuildsSide (λ b y. BuildsQuestion (Word (codes "diff") ∷ b) y) ts (q.side ts) _ (side-sound ts) (λ a ts1 first i.
     expect_word-sound (codes "to") (λ b y. BuildsQuestion (Word (codes "diff") ∷ (a ++ b)) y) (q.second_side first) ts1 (second_side-sound a first i))
 
-caused : (a b : Lexemes) (kept : Kept) (xs : Query) → IsKept a kept → BuildsQuery b xs
-    → BuildsQuestion (Word (codes "causes") ∷ Word (codes "of") ∷ (a ++ b)) (syntax.causes kept xs)
-caused a b kept xs i j = record {
-  tree = syntax.causes kept j.tree;
-  is = g.causes a b kept j.tree i j.is;
-  same = ap (λ z. syntax.causes kept z) j.same;
-}
-
-caused-sound : (ts : Lexemes) → Sound (λ b y. BuildsQuestion (Word (codes "causes") ∷ Word (codes "of") ∷ b) y) ts (q.caused ts)
-unfolding q.caused
-caused-sound ts = sound-bind IsKept (λ b y. BuildsQuestion (Word (codes "causes") ∷ Word (codes "of") ∷ b) y) ts (q.kept ts) _ (kept-sound ts) (λ a ts1 kept i.
-    sound-bind BuildsQuery (λ b y. BuildsQuestion (Word (codes "causes") ∷ Word (codes "of") ∷ (a ++ b)) y) ts1 (query ts1) _ (query-sound ts1)
-    (λ b ts2 xs j. sound-ok _ ts2 (syntax.causes kept xs) (let z : b ++ [] ≡ b = append-nil b in rw z (caused a b kept xs i j))))
-
 -- ---- whole questions
-
-saws : (t k : ℕ) (a : Lexemes) (xs : Query) → BuildsQuery a xs
-    → BuildsQuestion (Word (codes "saw") ∷ Number t ∷ Word (codes "after") ∷ Number k ∷ a) (syntax.saw t k xs)
-saws t k a xs i = record { tree = syntax.saw t k i.tree; is = g.saw t k a i.tree i.is; same = ap (λ z. syntax.saw t k z) i.same }
-
-saw-sound : (ts : Lexemes) → Sound (λ b y. BuildsQuestion (Word (codes "saw") ∷ b) y) ts (q.saw ts)
-unfolding q.saw
-saw-sound ts = number-sound (λ b y. BuildsQuestion (Word (codes "saw") ∷ b) y) ts _ (λ t ts1.
-    expect_word-sound (codes "after") (λ b y. BuildsQuestion (Word (codes "saw") ∷ Number t ∷ b) y) _ ts1 (λ ts2.
-    number-sound (λ b y. BuildsQuestion (Word (codes "saw") ∷ Number t ∷ Word (codes "after") ∷ b) y) ts2 _ (λ k ts3.
-    sound-bind BuildsQuery (λ b y. BuildsQuestion (Word (codes "saw") ∷ Number t ∷ Word (codes "after") ∷ Number k ∷ b) y) ts3 (query ts3) _ (query-sound ts3)
-    (λ a ts4 xs i. sound-ok _ ts4 (syntax.saw t k xs) (let z : a ++ [] ≡ a = append-nil a in rw z (saws t k a xs i))))))
 
 changes-sound : (ts : Lexemes) → Sound (λ b y. BuildsQuestion (Word (codes "changes") ∷ b) y) ts (q.changes ts)
 unfolding q.changes
@@ -432,6 +459,47 @@ changes-sound ts = number-sound (λ b y. BuildsQuestion (Word (codes "changes") 
     (number-sound (λ b y. BuildsQuestion (Word (codes "changes") ∷ Number t ∷ b) y) ts1 _
     (λ k ts2. sound-ok _ ts2 (syntax.changes t k) (record { tree = syntax.changes t k; is = g.changes t k; same = refl }))))
 
+histories : (table : Bytes) (w : Lexemes) (cond : Option Term) → BuildsWhere w cond
+    → BuildsQuestion (Word (codes "history") ∷ Word (codes "of") ∷ Word table ∷ w) (syntax.history table cond)
+histories table w cond i = record { tree = syntax.history table i.tree; is = g.history table w i.tree i.is; same = ap (λ z. syntax.history table z) i.same }
+
+history-sound : (ts : Lexemes) → Sound (λ b y. BuildsQuestion (Word (codes "history") ∷ Word (codes "of") ∷ b) y) ts (q.history ts)
+unfolding q.history
+history-sound ts = identifier-sound (λ b y. BuildsQuestion (Word (codes "history") ∷ Word (codes "of") ∷ b) y) ts _ (λ table ts1.
+    sound-bind BuildsWhere (λ b y. BuildsQuestion (Word (codes "history") ∷ Word (codes "of") ∷ Word table ∷ b) y) ts1 (condition ts1) _ (condition-sound ts1)
+    (λ w ts2 cond i. sound-ok _ ts2 (syntax.history table cond) (let z : w ++ [] ≡ w = append-nil w in rw z (histories table w cond i))))
+
+whens : (a : Lexemes) (xs : Query) → BuildsQuery a xs → BuildsQuestion (Sign s.When ∷ a) (syntax.when xs)
+whens a xs i = record { tree = syntax.when i.tree; is = g.when a i.tree i.is; same = ap (λ z. syntax.when z) i.same }
+
+when-sound : (ts : Lexemes) → Sound (λ b y. BuildsQuestion (Sign s.When ∷ b) y) ts (q.when ts)
+unfolding q.when
+when-sound ts = sound-bind BuildsQuery (λ b y. BuildsQuestion (Sign s.When ∷ b) y) ts (query ts) _ (query-sound ts)
+    (λ a ts1 xs i. sound-ok _ ts1 (syntax.when xs) (let z : a ++ [] ≡ a = append-nil a in rw z (whens a xs i)))
+
+explained_saws : (t k : ℕ) (a : Lexemes) (xs : Query) → BuildsQuery a xs
+    → BuildsQuestion (Word (codes "explain") ∷ Word (codes "saw") ∷ Number t ∷ Word (codes "after") ∷ Number k ∷ a) (syntax.explain_saw t k xs)
+explained_saws t k a xs i = record { tree = syntax.explain_saw t k i.tree; is = g.explain_saw t k a i.tree i.is; same = ap (λ z. syntax.explain_saw t k z) i.same }
+
+explained_saw-sound : (ts : Lexemes) → Sound (λ b y. BuildsQuestion (Word (codes "explain") ∷ Word (codes "saw") ∷ b) y) ts (q.explained_saw ts)
+unfolding q.explained_saw
+explained_saw-sound ts = saw_numbers-sound (λ b y. BuildsQuestion (Word (codes "explain") ∷ Word (codes "saw") ∷ b) y) ts _ (λ t k ts1.
+    sound-bind BuildsQuery (λ b y. BuildsQuestion (Word (codes "explain") ∷ Word (codes "saw") ∷ Number t ∷ Word (codes "after") ∷ Number k ∷ b) y) ts1 (query ts1) _ (query-sound ts1)
+    (λ a ts2 xs i. sound-ok _ ts2 (syntax.explain_saw t k xs) (let z : a ++ [] ≡ a = append-nil a in rw z (explained_saws t k a xs i))))
+
+explained_ask-sound : (ts : Lexemes) → Sound (λ b y. BuildsQuestion (Word (codes "explain") ∷ b) y) ts (q.asked_of syntax.ask (q.of_state q.explained) ts)
+explained_ask-sound = asked_of-sound syntax.ask (λ b y. IsSubject (Word (codes "explain") ∷ b) y) (q.of_state q.explained)
+    (of_state-sound (λ b y. IsHow (Word (codes "explain") ∷ b) y) q.explained explained-sound (λ b y. IsSubject (Word (codes "explain") ∷ b) y)
+    (λ a b how state i j. g.of_state (Word (codes "explain") ∷ a) b how state i j))
+    (λ b y. BuildsQuestion (Word (codes "explain") ∷ b) y) (λ a b x xs i j. asks (Word (codes "explain") ∷ a) b x xs i j)
+
+from_explain-sound : (ts : Lexemes) → Sound BuildsQuestion ts (q.from_explain ts)
+from_explain-sound ts =
+    word-sound (codes "explain") BuildsQuestion (where_word (codes "saw") q.explained_saw (q.asked_of syntax.ask (q.of_state q.explained))) (q.asked_of syntax.ask q.subject) ts
+    (λ ts1. word-sound (codes "saw") (λ b y. BuildsQuestion (Word (codes "explain") ∷ b) y) q.explained_saw (q.asked_of syntax.ask (q.of_state q.explained)) ts1
+    explained_saw-sound (explained_ask-sound ts1))
+    (asked_of-sound syntax.ask IsSubject q.subject subject-sound BuildsQuestion asks ts)
+
 open_question-sound : (ts : Lexemes) → Sound BuildsQuestion ts (q.open_question ts)
 unfolding q.open_question
 open_question-sound ts =
@@ -441,16 +509,24 @@ open_question-sound ts =
     (λ ts1. expect_word-sound (codes "of") (λ b y. BuildsQuestion (Word (codes "versions") ∷ b) y) _ ts1 (λ ts2.
     identifier-sound (λ b y. BuildsQuestion (Word (codes "versions") ∷ Word (codes "of") ∷ b) y) ts2 _
     (λ table ts3. sound-ok _ ts3 (syntax.versions table) (record { tree = syntax.versions table; is = g.versions table; same = refl }))))
-    (word-sound (codes "transactions") BuildsQuestion (accept syntax.transactions) q.from_saw ts
+    (word-sound (codes "transactions") BuildsQuestion (accept syntax.transactions) q.from_changes ts
     (λ ts1. sound-ok _ ts1 syntax.transactions (record { tree = syntax.transactions; is = g.transactions; same = refl }))
-    (word-sound (codes "saw") BuildsQuestion q.saw q.from_changes ts saw-sound
-    (word-sound (codes "changes") BuildsQuestion q.changes q.from_check ts changes-sound
+    (word-sound (codes "changes") BuildsQuestion q.changes q.from_conflicts ts changes-sound
+    (word-sound (codes "conflicts") BuildsQuestion (λ ts. number ts >>= (λ t. Ok (syntax.conflicts t.0, t.1))) q.from_history ts
+    (λ ts1. number-sound (λ b y. BuildsQuestion (Word (codes "conflicts") ∷ b) y) ts1 _
+    (λ t ts2. sound-ok _ ts2 (syntax.conflicts t) (record { tree = syntax.conflicts t; is = g.conflicts t; same = refl })))
+    (word-sound (codes "history") BuildsQuestion (expect_word (codes "of") q.history) q.from_when ts
+    (λ ts1. expect_word-sound (codes "of") (λ b y. BuildsQuestion (Word (codes "history") ∷ b) y) q.history ts1 history-sound)
+    (next-sound s.When BuildsQuestion q.when q.from_serial ts when-sound
+    (word-sound (codes "serial") BuildsQuestion (accept syntax.serial) q.from_check ts
+    (λ ts1. sound-ok _ ts1 syntax.serial (record { tree = syntax.serial; is = g.serial; same = refl }))
     (word-sound (codes "check") BuildsQuestion (accept syntax.check) q.from_diff ts
     (λ ts1. sound-ok _ ts1 syntax.check (record { tree = syntax.check; is = g.check; same = refl }))
     (word-sound (codes "diff") BuildsQuestion q.diff q.from_causes ts diff-sound
-    (word-sound (codes "causes") BuildsQuestion (expect_word (codes "of") q.caused) q.from_what_if ts
-    (λ ts1. expect_word-sound (codes "of") (λ b y. BuildsQuestion (Word (codes "causes") ∷ b) y) q.caused ts1 caused-sound)
-    (word-sound (codes "whatif") BuildsQuestion q.what_if (q.ask syntax.ask) ts what_if-sound (ask-sound syntax.ask BuildsQuestion asks ts)))))))))
+    (word-sound (codes "causes") BuildsQuestion (expect_word (codes "of") (q.asked_of syntax.causes q.kept)) q.from_what_if ts
+    (λ ts1. expect_word-sound (codes "of") (λ b y. BuildsQuestion (Word (codes "causes") ∷ b) y) (q.asked_of syntax.causes q.kept) ts1
+    (asked_of-sound syntax.causes IsKept q.kept kept-sound (λ b y. BuildsQuestion (Word (codes "causes") ∷ Word (codes "of") ∷ b) y) causes))
+    (word-sound (codes "whatif") BuildsQuestion q.what_if q.from_explain ts what_if-sound (from_explain-sound ts))))))))))))
 
 pub question-sound : (ts : Lexemes) → Sound (Closed BuildsQuestion) ts (q.question ts)
 question-sound = closed-sound BuildsQuestion q.open_question open_question-sound

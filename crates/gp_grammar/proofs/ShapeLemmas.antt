@@ -3,11 +3,11 @@ use Rattle.std.proofs.Common.{◌≡◌, Bool, true, false, cond, ltb, List, [],
 use Rattle.std.specs.Prelude.{max, option_map, ◌||◌}
 use Rattle.std.proofs.lemmas.List.{map-append, length-map}
 use Rattle.std.proofs.lemmas.Bool.{ltb-false, ltb-true, lt-ltb, or_parts}
-use Rattle.gp_grammar.specs.declared.limits.TheConstants.{MAX_COLUMNS, MAX_FROM, MAX_BRANCHES, MAX_VALUES, MAX_NODES, MAX_LEVELS}
+use Rattle.gp_grammar.specs.declared.limits.TheConstants.{MAX_COLUMNS, MAX_FROM, MAX_BRANCHES, MAX_VALUES, MAX_NODES, MAX_LEVELS, MAX_CHANGES}
 use Rattle.gp_grammar.specs.Syntax as syntax
 use Rattle.gp_grammar.specs.Syntax.{Term, SetTerm, Item, Items, Block, Query, Command, ScriptLine, LogChange, Side, Question}
 use Rattle.gp_grammar.specs.Limits as l
-use Rattle.gp_grammar.specs.Limits.{Limit, Shape, nodes, levels, some_above, passed_limit, terms_of_condition, select_terms, terms_of_query, query_shape, shape_of_terms, command_shape, line_shape, change_shape, side_shape, both, question_shape}
+use Rattle.gp_grammar.specs.Limits.{Limit, Shape, nodes, levels, some_above, passed_limit, terms_of_condition, select_terms, terms_of_query, query_shape, shape_of_terms, command_shape, line_shape, change_shape, both, shape_of_count, commands_shape, changes_shape, side_shape, question_shape}
 use Rattle.gp_grammar.specs.Laws.{CapsFairly, term_shape}
 use Rattle.gp_grammar.specs.Capping.{is_large, capped, capped_set, capped_items, capped_block, capped_command, capped_line, capped_change, capped_side, capped_question}
 use Rattle.gp_grammar.specs.Grammar.{IsTerm}
@@ -62,40 +62,42 @@ exact-split (x ∷ xs) ys h = let w : AreExact xs × AreExact ys = exact-split x
 -- ---- the limits
 
 abbrev capped_shape : Shape → Shape
-capped_shape shape = record { columns = shape.columns; from = shape.from; branches = shape.branches; values = shape.values; terms = map capped shape.terms }
+capped_shape shape = record { columns = shape.columns; from = shape.from; branches = shape.branches; values = shape.values; terms = map capped shape.terms; changes = shape.changes }
 
-abbrev pub first_limit : Bool → Bool → Bool → Bool → Bool → Bool → Option Limit
-first_limit c f b v n d = cond c (Some l.columns) (cond f (Some l.from) (cond b (Some l.branches) (cond v (Some l.values) (cond n (Some l.node_count) (cond d (Some l.depth) None)))))
+abbrev pub first_limit : Bool → Bool → Bool → Bool → Bool → Bool → Bool → Option Limit
+first_limit c f b v n d k = cond c (Some l.columns) (cond f (Some l.from) (cond b (Some l.branches) (cond v (Some l.values) (cond n (Some l.node_count) (cond d (Some l.depth)
+    (cond k (Some l.change_count) None))))))
 
 pub of_shape : (s : Shape) → passed_limit s ≡ first_limit (some_above MAX_COLUMNS s.columns) (some_above MAX_FROM s.from) (ltb MAX_BRANCHES s.branches) (ltb MAX_VALUES s.values)
-    (some_large s.terms) (some_above MAX_LEVELS (map levels s.terms))
+    (some_large s.terms) (some_above MAX_LEVELS (map levels s.terms)) (ltb MAX_CHANGES s.changes)
 unfolding some_large
 of_shape s = refl
 
-last-same : (n : Bool) (xs ys : List Term) → (n ≡ false → xs ≡ ys)
-    → cond n (Some l.node_count) (cond (some_above MAX_LEVELS (map levels xs)) (Some l.depth) None) ≡ cond n (Some l.node_count) (cond (some_above MAX_LEVELS (map levels ys)) (Some l.depth) None)
-last-same true xs ys h = refl
-last-same false xs ys h = ap (λ z. cond (some_above MAX_LEVELS (map levels z)) (Some l.depth) None) (h refl)
+last-same : (n : Bool) (xs ys : List Term) (last : Option Limit) → (n ≡ false → xs ≡ ys)
+    → cond n (Some l.node_count) (cond (some_above MAX_LEVELS (map levels xs)) (Some l.depth) last) ≡ cond n (Some l.node_count) (cond (some_above MAX_LEVELS (map levels ys)) (Some l.depth) last)
+last-same true xs ys last h = refl
+last-same false xs ys last h = ap (λ z. cond (some_above MAX_LEVELS (map levels z)) (Some l.depth) last) (h refl)
 
 pub capped-limit : (s : Shape) → passed_limit (capped_shape s) ≡ passed_limit s
 capped-limit s =
     of_shape (capped_shape s)
     ∙ ap (λ n. first_limit (some_above MAX_COLUMNS s.columns) (some_above MAX_FROM s.from) (ltb MAX_BRANCHES s.branches) (ltb MAX_VALUES s.values) n
-    (some_above MAX_LEVELS (map levels (map capped s.terms)))) (some_large-same s.terms)
+    (some_above MAX_LEVELS (map levels (map capped s.terms))) (ltb MAX_CHANGES s.changes)) (some_large-same s.terms)
     ∙ ap (λ z. cond (some_above MAX_COLUMNS s.columns) (Some l.columns) (cond (some_above MAX_FROM s.from) (Some l.from) (cond (ltb MAX_BRANCHES s.branches) (Some l.branches)
-    (cond (ltb MAX_VALUES s.values) (Some l.values) z)))) (last-same (some_large s.terms) (map capped s.terms) s.terms (λ e. exact-map s.terms (exact-terms s.terms e)))
+    (cond (ltb MAX_VALUES s.values) (Some l.values) z))))
+    (last-same (some_large s.terms) (map capped s.terms) s.terms (cond (ltb MAX_CHANGES s.changes) (Some l.change_count) None) (λ e. exact-map s.terms (exact-terms s.terms e)))
     ∙ sym (of_shape s)
 
-none-small : (c f b v n d : Bool) → first_limit c f b v n d ≡ None → n ≡ false
-none-small true f b v n d h = cc
-none-small false true b v n d h = cc
-none-small false false true v n d h = cc
-none-small false false false true n d h = cc
-none-small false false false false true d h = cc
-none-small false false false false false d h = refl
+none-small : (c f b v n d k : Bool) → first_limit c f b v n d k ≡ None → n ≡ false
+none-small true f b v n d k h = cc
+none-small false true b v n d k h = cc
+none-small false false true v n d k h = cc
+none-small false false false true n d k h = cc
+none-small false false false false true d k h = cc
+none-small false false false false false d k h = refl
 
 within-exact : (s : Shape) → passed_limit s ≡ None → AreExact s.terms
-within-exact s h = exact-terms s.terms (none-small _ _ _ _ _ _ (sym (of_shape s) ∙ h))
+within-exact s h = exact-terms s.terms (none-small _ _ _ _ _ _ _ (sym (of_shape s) ∙ h))
 
 -- ---- queries
 
@@ -134,10 +136,10 @@ query-terms (b ∷ q) =
 
 query-shape : (q : Query) → query_shape (map capped_block q) ≡ capped_shape (query_shape q)
 query-shape q =
-    ap (λ z. record { columns = z; from = map (λ (block : Block). length block.from) (map capped_block q); branches = length (map capped_block q); values = 0; terms = terms_of_query (map capped_block q) }) (query-columns q)
-    ∙ ap (λ z. record { columns = (query_shape q).columns; from = z; branches = length (map capped_block q); values = 0; terms = terms_of_query (map capped_block q) }) (query-from q)
-    ∙ ap (λ z. record { columns = (query_shape q).columns; from = (query_shape q).from; branches = z; values = 0; terms = terms_of_query (map capped_block q) }) (length-map q capped_block)
-    ∙ ap (λ z. record { columns = (query_shape q).columns; from = (query_shape q).from; branches = length q; values = 0; terms = z }) (query-terms q)
+    ap (λ z. record { columns = z; from = map (λ (block : Block). length block.from) (map capped_block q); branches = length (map capped_block q); values = 0; terms = terms_of_query (map capped_block q); changes = 0 }) (query-columns q)
+    ∙ ap (λ z. record { columns = (query_shape q).columns; from = z; branches = length (map capped_block q); values = 0; terms = terms_of_query (map capped_block q); changes = 0 }) (query-from q)
+    ∙ ap (λ z. record { columns = (query_shape q).columns; from = (query_shape q).from; branches = z; values = 0; terms = terms_of_query (map capped_block q); changes = 0 }) (length-map q capped_block)
+    ∙ ap (λ z. record { columns = (query_shape q).columns; from = (query_shape q).from; branches = length q; values = 0; terms = z; changes = 0 }) (query-terms q)
 
 exact-items : (items : Items) → AreExact (select_terms items) → capped_items items ≡ items
 exact-items syntax.star h = refl
@@ -222,32 +224,53 @@ term-exact x h = (within-exact (shape_of_terms (x ∷ [])) h).0
 
 change-shape : (x : LogChange) → change_shape (capped_change x) ≡ capped_shape (change_shape x)
 change-shape (syntax.drop t k) = refl
+change-shape (syntax.drop_all t) = refl
 change-shape (syntax.replace t k c) = command-shape c
 change-shape (syntax.add t c) = command-shape c
 
 exact-change : (x : LogChange) → AreExact (change_shape x).terms → capped_change x ≡ x
 exact-change (syntax.drop t k) h = refl
+exact-change (syntax.drop_all t) h = refl
 exact-change (syntax.replace t k c) h = ap (λ z. syntax.replace t k z) (exact-command c h)
 exact-change (syntax.add t c) h = ap (λ z. syntax.add t z) (exact-command c h)
 
 both-shape : (a b : Shape) → both (capped_shape a) (capped_shape b) ≡ capped_shape (both a b)
 both-shape a b =
-    ap (λ z. record { columns = a.columns ++ b.columns; from = a.from ++ b.from; branches = max a.branches b.branches; values = max a.values b.values; terms = z })
+    ap (λ z. record { columns = a.columns ++ b.columns; from = a.from ++ b.from; branches = max a.branches b.branches; values = max a.values b.values; terms = z; changes = max a.changes b.changes })
     (sym (map-append capped a.terms b.terms))
 
-what_if-shape : (x : LogChange) (q : Query) → both (change_shape (capped_change x)) (query_shape (map capped_block q)) ≡ capped_shape (both (change_shape x) (query_shape q))
-what_if-shape x q =
-    ap (λ z. both z (query_shape (map capped_block q))) (change-shape x)
-    ∙ ap (λ z. both (capped_shape (change_shape x)) z) (query-shape q)
-    ∙ both-shape (change_shape x) (query_shape q)
+commands-shape : (xs : List LogChange) → commands_shape (map capped_change xs) ≡ capped_shape (commands_shape xs)
+commands-shape [] = refl
+commands-shape (x ∷ xs) =
+    ap (λ z. both z (commands_shape (map capped_change xs))) (change-shape x)
+    ∙ ap (λ z. both (capped_shape (change_shape x)) z) (commands-shape xs)
+    ∙ both-shape (change_shape x) (commands_shape xs)
+
+changes-shape : (xs : List LogChange) → changes_shape (map capped_change xs) ≡ capped_shape (changes_shape xs)
+changes-shape xs =
+    ap (λ n. both (shape_of_count n) (commands_shape (map capped_change xs))) (length-map xs capped_change)
+    ∙ ap (λ z. both (shape_of_count (length xs)) z) (commands-shape xs)
+    ∙ both-shape (shape_of_count (length xs)) (commands_shape xs)
+
+exact-changes : (xs : List LogChange) → AreExact (commands_shape xs).terms → map capped_change xs ≡ xs
+exact-changes [] h = refl
+exact-changes (x ∷ xs) h =
+    let w : AreExact (change_shape x).terms × AreExact (commands_shape xs).terms = exact-split (change_shape x).terms (commands_shape xs).terms h in
+    ap (λ z. z ∷ map capped_change xs) (exact-change x w.0) ∙ ap (λ z. x ∷ z) (exact-changes xs w.1)
+
+what_if-shape : (xs : List LogChange) (q : Query) → both (changes_shape (map capped_change xs)) (query_shape (map capped_block q)) ≡ capped_shape (both (changes_shape xs) (query_shape q))
+what_if-shape xs q =
+    ap (λ z. both z (query_shape (map capped_block q))) (changes-shape xs)
+    ∙ ap (λ z. both (capped_shape (changes_shape xs)) z) (query-shape q)
+    ∙ both-shape (changes_shape xs) (query_shape q)
 
 side-shape : (x : Side) → side_shape (capped_side x) ≡ capped_shape (side_shape x)
-side-shape (syntax.as_is kept) = refl
-side-shape (syntax.changed change kept) = change-shape change
+side-shape (syntax.as_is subject) = refl
+side-shape (syntax.changed changes subject) = changes-shape changes
 
 exact-side : (x : Side) → AreExact (side_shape x).terms → capped_side x ≡ x
-exact-side (syntax.as_is kept) h = refl
-exact-side (syntax.changed change kept) h = ap (λ z. syntax.changed z kept) (exact-change change h)
+exact-side (syntax.as_is subject) h = refl
+exact-side (syntax.changed changes subject) h = ap (λ z. syntax.changed z subject) (exact-changes changes h)
 
 diff-shape : (x z : Side) (q : Query) → both (both (side_shape (capped_side x)) (side_shape (capped_side z))) (query_shape (map capped_block q))
     ≡ capped_shape (both (both (side_shape x) (side_shape z)) (query_shape q))
@@ -262,22 +285,29 @@ pub question-limit : (x : Question) → passed_limit (question_shape (capped_que
 question-limit syntax.transactions = refl
 question-limit (syntax.log t) = refl
 question-limit (syntax.versions table) = refl
-question-limit (syntax.saw t k q) = ap passed_limit (query-shape q) ∙ capped-limit (query_shape q)
 question-limit (syntax.changes t k) = refl
 question-limit (syntax.commit_changes t) = refl
+question-limit (syntax.conflicts t) = refl
+question-limit (syntax.history table cond) = ap (λ z. passed_limit (shape_of_terms z)) (condition-terms cond) ∙ capped-limit (shape_of_terms (terms_of_condition cond))
+question-limit (syntax.when q) = ap passed_limit (query-shape q) ∙ capped-limit (query_shape q)
+question-limit syntax.serial = refl
 question-limit syntax.check = refl
 question-limit (syntax.diff first second q) = ap passed_limit (diff-shape first second q) ∙ capped-limit (both (both (side_shape first) (side_shape second)) (query_shape q))
-question-limit (syntax.causes kept q) = ap passed_limit (query-shape q) ∙ capped-limit (query_shape q)
-question-limit (syntax.ask how state q) = ap passed_limit (query-shape q) ∙ capped-limit (query_shape q)
-question-limit (syntax.what_if change how state q) = ap passed_limit (what_if-shape change q) ∙ capped-limit (both (change_shape change) (query_shape q))
+question-limit (syntax.causes subject q) = ap passed_limit (query-shape q) ∙ capped-limit (query_shape q)
+question-limit (syntax.ask subject q) = ap passed_limit (query-shape q) ∙ capped-limit (query_shape q)
+question-limit (syntax.what_if changes subject q) = ap passed_limit (what_if-shape changes q) ∙ capped-limit (both (changes_shape changes) (query_shape q))
+question-limit (syntax.explain_saw t k q) = ap passed_limit (query-shape q) ∙ capped-limit (query_shape q)
 
 pub question-exact : (x : Question) → passed_limit (question_shape x) ≡ None → capped_question x ≡ x
 question-exact syntax.transactions h = refl
 question-exact (syntax.log t) h = refl
 question-exact (syntax.versions table) h = refl
-question-exact (syntax.saw t k q) h = ap (λ z. syntax.saw t k z) (exact-query q (within-exact (query_shape q) h))
 question-exact (syntax.changes t k) h = refl
 question-exact (syntax.commit_changes t) h = refl
+question-exact (syntax.conflicts t) h = refl
+question-exact (syntax.history table cond) h = ap (λ z. syntax.history table z) (exact-condition cond (within-exact (shape_of_terms (terms_of_condition cond)) h))
+question-exact (syntax.when q) h = ap (λ z. syntax.when z) (exact-query q (within-exact (query_shape q) h))
+question-exact syntax.serial h = refl
 question-exact syntax.check h = refl
 question-exact (syntax.diff first second q) h =
     let sides : List Term = (side_shape first).terms ++ (side_shape second).terms in
@@ -286,12 +316,13 @@ question-exact (syntax.diff first second q) h =
     ap (λ z. syntax.diff z (capped_side second) (map capped_block q)) (exact-side first s.0)
     ∙ ap (λ z. syntax.diff first z (map capped_block q)) (exact-side second s.1)
     ∙ ap (λ z. syntax.diff first second z) (exact-query q w.1)
-question-exact (syntax.causes kept q) h = ap (λ z. syntax.causes kept z) (exact-query q (within-exact (query_shape q) h))
-question-exact (syntax.ask how state q) h = ap (λ z. syntax.ask how state z) (exact-query q (within-exact (query_shape q) h))
-question-exact (syntax.what_if change how state q) h =
-    let w : AreExact (change_shape change).terms × AreExact (terms_of_query q) =
-    exact-split (change_shape change).terms (terms_of_query q) (within-exact (both (change_shape change) (query_shape q)) h) in
-    ap (λ z. syntax.what_if z how state (map capped_block q)) (exact-change change w.0) ∙ ap (λ z. syntax.what_if change how state z) (exact-query q w.1)
+question-exact (syntax.causes subject q) h = ap (λ z. syntax.causes subject z) (exact-query q (within-exact (query_shape q) h))
+question-exact (syntax.ask subject q) h = ap (λ z. syntax.ask subject z) (exact-query q (within-exact (query_shape q) h))
+question-exact (syntax.what_if changes subject q) h =
+    let w : AreExact (commands_shape changes).terms × AreExact (terms_of_query q) =
+    exact-split (commands_shape changes).terms (terms_of_query q) (within-exact (both (changes_shape changes) (query_shape q)) h) in
+    ap (λ z. syntax.what_if z subject (map capped_block q)) (exact-changes changes w.0) ∙ ap (λ z. syntax.what_if changes subject z) (exact-query q w.1)
+question-exact (syntax.explain_saw t k q) h = ap (λ z. syntax.explain_saw t k z) (exact-query q (within-exact (query_shape q) h))
 
 pub terms-fair : CapsFairly term IsTerm capped term_shape
 terms-fair = record { limit = term-limit; exact = term-exact }

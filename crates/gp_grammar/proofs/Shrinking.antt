@@ -1,10 +1,11 @@
 -- Parsers leave fewer lexemes than they take, so that the bound of a repetition does not matter.
-use Rattle.std.proofs.Common.{◌≡◌, ℕ, zero, suc, ◌<◌, ◌≤◌, [], ◌∷◌, length, Option, Some, None, Ok, Err, IfOk, IfSome, refl, subst, arith}
+use Rattle.std.proofs.Common.{◌≡◌, ℕ, zero, suc, ◌<◌, ◌≤◌, ◌+◌, [], ◌∷◌, length, length-append, Option, Some, None, Ok, Err, IfOk, IfSome, refl, ap, subst, arith, ◌∙◌}
 use Rattle.gp_lexer.specs.declared.lexeme.Symbol.{Symbol}
 use Rattle.gp_lexer.specs.declared.lexeme.Symbol.TheVariants as s
 use Rattle.gp_grammar.specs.Syntax.{Lexemes}
 use Rattle.gp_grammar.specs.Parsing.{Outcome, Parser, ◌>>=◌, by_option, strip, expected, expect, identifier, term}
-use Rattle.gp_grammar.specs.CommandParsing.{where_next, fail, accept, repeat, many, push, separated, in_brackets}
+use Rattle.gp_grammar.specs.CommandParsing.{where_next, accept, repeat, many, push, separated, in_brackets}
+use Rattle.gp_grammar.proofs.Soundness.{Sound}
 use Rattle.gp_grammar.proofs.Agreement.{Agree, agree-refl, agree-bind, agree-weaken, strip-less, identifier-agree, term-agree}
 
 abbrev pub Below : {A : Type 0} → ℕ → Outcome (A × Lexemes) → Type 0
@@ -25,9 +26,6 @@ shrinks-keeps p w = record { below = λ ts. below-weaken (length ts) (suc (lengt
 
 pub keeps-accept : {A : Type 0} (x : A) → Keeps (λ ts. Ok (x, ts))
 keeps-accept x = record { below = λ ts. omega arith }
-
-pub shrinks-fail : {A : Type 0} → Shrinks {A = A} fail
-shrinks-fail = record { below = λ ts. tt }
 
 bind-below : {A B : Type 0} (n m : ℕ) (o : Outcome (A × Lexemes)) (f : A × Lexemes → Outcome (B × Lexemes)) → Below n o
     → ((r : A × Lexemes) → length r.1 < n → Below m (f r)) → Below m (o >>= f)
@@ -50,12 +48,6 @@ option-below : {B : Type 0} (n m : ℕ) (o : Option Lexemes) (none : Outcome (B 
     → Below m none → ((rest : Lexemes) → length rest < n → Below m (some rest)) → Below m (by_option o none some)
 option-below n m None none some h w k = w
 option-below n m (Some rest) none some h w k = k rest h
-
-pub shrinks-next : {A : Type 0} (symbol : Symbol) (some none : Parser A) → Keeps some → Shrinks none → Shrinks (where_next symbol some none)
-shrinks-next symbol some none w k = record {
-  below = λ ts. option-below (length ts) (length ts) (strip symbol ts) (none ts) some (strip-less symbol ts) (k.below ts)
-      (λ rest lt. below-weaken (suc (length rest)) (length ts) (some rest) (omega arith) (w.below rest));
-}
 
 pub keeps-next : {A : Type 0} (symbol : Symbol) (some none : Parser A) → Keeps some → Keeps none → Keeps (where_next symbol some none)
 keeps-next symbol some none w k = record {
@@ -80,6 +72,17 @@ shrinks-identifier = record { below = λ ts. (identifier-agree ts).below }
 
 pub shrinks-term : Shrinks term
 shrinks-term = record { below = λ ts. (term-agree (suc (length ts)) ts (omega arith)).below }
+
+-- a sound parser of phrases that have a lexeme
+pub shrinks-sound : {A : Type 0} (Is : Lexemes → A → Type 0) (p : Parser A) → ((ts : Lexemes) → Sound Is ts (p ts)) → ((a : Lexemes) (x : A) → Is a x → 0 < length a) → Shrinks p
+shrinks-sound {A = A} Is p sound some = record { below = λ ts. by ts (p ts) (sound ts) }
+  where
+    by : (ts : Lexemes) (o : Outcome (A × Lexemes)) → Sound Is ts o → Below (length ts) o
+    by ts (Ok r) h =
+        let split : length ts ≡ length h.used + length r.1 = ap length h.split ∙ length-append h.used r.1 in
+        let taken : 0 < length h.used = some h.used r.0 h.is in
+        omega arith
+    by ts (Err rest) h = tt
 
 -- ---- repetitions
 

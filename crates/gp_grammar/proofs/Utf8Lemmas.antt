@@ -1,5 +1,5 @@
 -- The texts in a line of UTF-8 are UTF-8, and so is the layout of lexemes with such texts.
-use Rattle.std.proofs.Common.{◌≡◌, ℕ, zero, suc, ◌+◌, ◌<◌, ◌^◌, Bool, true, false, cond, eqb, ltb, leb, nat_eq, List, [], ◌∷◌, ◌++◌, length, take, drop, get_or, Option, Some, None, Ok, Err, refl, sym, ap, subst, ◌∙◌, arith, append_assoc, length-append, lit≤}
+use Rattle.std.proofs.Common.{◌≡◌, ℕ, zero, suc, ◌+◌, ◌<◌, ◌^◌, Bool, true, false, cond, eqb, ltb, leb, nat_eq, List, [], ◌∷◌, ◌++◌, length, take, drop, Option, Some, None, Ok, Err, refl, sym, ap, subst, ◌∙◌, arith, append_assoc, lit≤}
 use Rattle.std.specs.Prelude.{◌&&◌}
 use Rattle.std.specs.Char.{is_ascii_alphabetic, is_ascii_control, is_ascii_digit}
 use Rattle.std.specs.Fmt.{decimal}
@@ -8,12 +8,11 @@ use Rattle.std.specs.Option.{option_map, option_map_or}
 use Rattle.std.specs.Str.{IsUtf8, IsAscii}
 use Rattle.std.specs.Str.Parse.{digits_value}
 use Rattle.std.proofs.lemmas.List.{append-nil}
-use Rattle.std.proofs.Math.Seq.{take-append_seam, drop-append-add, get_or-append_seam}
 use Rattle.std.proofs.lemmas.Fmt.{IsAscii-decimal}
 use Rattle.std.proofs.lemmas.Bool.{ltb-true}
 use Rattle.std.proofs.lemmas.Bool.Decides.{Decides-eqb, nat_tests}
 use Rattle.std.proofs.lemmas.Slice.Eq.{starts_is}
-use Rattle.std.proofs.lemmas.Str.{IsUtf8-append, IsUtf8-nil, IsUtf8-take, IsUtf8-drop, IsUtf8-from_ascii, IsCharBoundary-before_ascii, IsCharBoundary-after_ascii}
+use Rattle.std.proofs.lemmas.Str.{IsUtf8-append, IsUtf8-nil, IsUtf8-from_ascii}
 use Rattle.gp_base.specs.declared.name.TheConstants.{MAX_NAME_LENGTH}
 use Rattle.gp_lexer.specs.declared.lexeme.Symbol.{Symbol}
 use Rattle.gp_lexer.specs.declared.lexeme.Symbol.TheVariants as s
@@ -27,17 +26,9 @@ use Rattle.gp_lexer.specs.ProperLexemes.{IsProper, AreProper}
 use Rattle.gp_lexer.specs.Layout.{has_space, Page, empty_page, spaced, put, written, laid_out}
 use Rattle.gp_lexer.specs.Lexing.{Scanned, Quoted, Lexed, is_word_byte, is_blank, word_lexeme, word_at, number_lexeme, number_at, with_byte, quoted_text, quoted_text_after_quote, text_lexeme, signs, sign_among, sign_at, lexeme_at, with_lexeme, lexed_at, column_of, lexed_from, lexed}
 use Rattle.gp_base.proofs.SmallLemmas.{left_true, right_true}
+use Rattle.gp_lexer.proofs.Utf8Lemmas.{after-utf8, cut-utf8}
 
 -- ---- UTF-8 around ASCII bytes
-
-pub ascii-split : (a : List ℕ) (q : ℕ) (b : List ℕ) → q < 128 → IsUtf8 (a ++ (q ∷ b)) → IsUtf8 a × IsUtf8 b
-ascii-split a q b h u =
-    let e : get_or (a ++ (q ∷ b)) (length a) 0 ≡ q = get_or-append_seam a q b 0 in
-    let l : length a < length (a ++ (q ∷ b)) = simp length-append (omega arith) in
-    let k : get_or (a ++ (q ∷ b)) (length a) 0 < 128 = omega arith in (
-      subst IsUtf8 (take-append_seam a (q ∷ b)) (IsUtf8-take (a ++ (q ∷ b)) (length a) u (IsCharBoundary-before_ascii (a ++ (q ∷ b)) (length a) l k)),
-      subst IsUtf8 (drop-append-add a (q ∷ b) 1) (IsUtf8-drop (a ++ (q ∷ b)) (length a + 1) u (IsCharBoundary-after_ascii (a ++ (q ∷ b)) (length a) u l k)),
-    )
 
 one-ascii : (q : ℕ) → q < 128 → IsAscii (q ∷ [])
 one-ascii q h zero = h
@@ -48,15 +39,7 @@ ascii-cons q b h u = IsUtf8-append (q ∷ []) b (IsUtf8-from_ascii (q ∷ []) (o
 
 ascii-prefix : (a b : List ℕ) → AllByRecursion (λ c. c < 128) a → IsUtf8 (a ++ b) → IsUtf8 b
 ascii-prefix [] b h u = u
-ascii-prefix (c ∷ a) b h u = ascii-prefix a b h.1 (ascii-split [] c (a ++ b) h.0 u).1
-
-drop-passed : (test : ℕ → Bool) → ((c : ℕ) → test c ≡ true → c < 128) → (bytes : List ℕ) → IsUtf8 bytes → IsUtf8 (drop (prefix_len test bytes) bytes)
-drop-passed test k [] u = u
-drop-passed test k (c ∷ bytes) u = by (test c) refl (λ v. drop-passed test k bytes v)
-  where
-    by : (b : Bool) → test c ≡ b → (IsUtf8 bytes → IsUtf8 (drop (prefix_len test bytes) bytes)) → IsUtf8 (drop (cond b (1 + prefix_len test bytes) 0) (c ∷ bytes))
-    by true e rest = subst IsUtf8 (sym (drop-append-add (c ∷ []) bytes (prefix_len test bytes))) (rest (ascii-split [] c bytes (k c e) u).1)
-    by false e rest = u
+ascii-prefix (c ∷ a) b h u = ascii-prefix a b h.1 (cut-utf8 [] c (a ++ b) h.0 u).1
 
 -- ---- the lexemes of a line
 
@@ -93,7 +76,7 @@ quoted-cases : (prefix : List ℕ) (byte : ℕ) (bytes : List ℕ) (t : Bool) �
 unfolding IsQuoted
 quoted-cases prefix byte bytes true e c u after text =
     let q : byte ≡ 39 = (Decides-eqb byte 39).0 e in
-    let w : IsUtf8 prefix × IsUtf8 bytes = ascii-split prefix byte bytes (omega arith) u in
+    let w : IsUtf8 prefix × IsUtf8 bytes = cut-utf8 prefix byte bytes (omega arith) u in
     after w.0 w.1
 quoted-cases prefix byte bytes false e true u after text = tt
 quoted-cases prefix byte bytes false e false u after text =
@@ -104,7 +87,7 @@ after-cases : (prefix : List ℕ) (byte : ℕ) (bytes : List ℕ) (t : Bool) →
 unfolding IsQuoted
 after-cases prefix byte bytes true e u v text =
     let q : byte ≡ 39 = (Decides-eqb byte 39).0 e in
-    quote-quoted prefix (quoted_text bytes) u (text (ascii-split [] byte bytes (omega arith) v).1)
+    quote-quoted prefix (quoted_text bytes) u (text (cut-utf8 [] byte bytes (omega arith) v).1)
 after-cases prefix byte bytes false e u v text = (subst IsUtf8 (sym (append-nil prefix)) u, v)
 
 record Quotes (bytes : List ℕ) : Type 0 where
@@ -151,7 +134,7 @@ unfolding word_at IsScanned HasUtf8
 word-scanned bytes u = by (leb (prefix_len is_word_byte bytes) MAX_NAME_LENGTH)
   where
     by : (test : Bool) → IsScanned (cond test (Some (word_lexeme (take (prefix_len is_word_byte bytes) bytes), drop (prefix_len is_word_byte bytes) bytes)) None)
-    by true = (word-plain _ _, drop-passed is_word_byte word_byte-ascii bytes u)
+    by true = (word-plain _ _, after-utf8 is_word_byte word_byte-ascii bytes u)
     by false = tt
 
 number-plain : (n : ℕ) (rest : List ℕ) → IsUtf8 rest → IsScanned (option_map (λ lexeme. (lexeme, rest)) (number_lexeme n))
@@ -165,7 +148,7 @@ number-plain n rest u = by (ltb n (2 ^ 63)) (eqb n (2 ^ 63))
 
 number-scanned : (bytes : List ℕ) → IsUtf8 bytes → IsScanned (number_at bytes)
 unfolding number_at
-number-scanned bytes u = number-plain (digits_value 10 (take (prefix_len is_ascii_digit bytes) bytes)) (drop (prefix_len is_ascii_digit bytes) bytes) (drop-passed is_ascii_digit digit-ascii bytes u)
+number-scanned bytes u = number-plain (digits_value 10 (take (prefix_len is_ascii_digit bytes) bytes)) (drop (prefix_len is_ascii_digit bytes) bytes) (after-utf8 is_ascii_digit digit-ascii bytes u)
 
 sign-scanned : (list : List (List ℕ × Symbol)) → AllByRecursion (λ sign. AllByRecursion (λ c. c < 128) sign.0) list → (bytes : List ℕ) → IsUtf8 bytes → IsScanned (sign_among list bytes)
 unfolding IsScanned HasUtf8
@@ -190,7 +173,7 @@ lexeme-scanned (b ∷ bytes) u = by (is_ascii_alphabetic b) (is_ascii_digit b) (
     by false true q e = number-scanned (b ∷ bytes) u
     by false false true e =
         let m : b ≡ 39 = (Decides-eqb b 39).0 e in
-        text-scanned (quoted_text bytes) ((quotes bytes).text [] (ascii-split [] b bytes (omega arith) u).1)
+        text-scanned (quoted_text bytes) ((quotes bytes).text [] (cut-utf8 [] b bytes (omega arith) u).1)
     by false false false e = sign-scanned signs signs-ascii (b ∷ bytes) u
 
 abbrev pub AllHaveUtf8 : List Lexeme → Type 0
@@ -221,7 +204,7 @@ lexed_from-lexed (suc bound) line (b ∷ bytes) u = by (is_blank b) refl (λ res
   where
     by : (t : Bool) → is_blank b ≡ t → ((rest : List ℕ) → IsUtf8 rest → IsLexed (lexed_from bound line rest))
         → IsLexed (cond t (lexed_from bound line bytes) (lexed_at (column_of line (b ∷ bytes)) (lexeme_at (b ∷ bytes)) (λ rest. lexed_from bound line rest)))
-    by true e k = k bytes (ascii-split [] b bytes (blank-ascii b e) u).1
+    by true e k = k bytes (cut-utf8 [] b bytes (blank-ascii b e) u).1
     by false e k = lexed_at-lexed (column_of line (b ∷ bytes)) (lexeme_at (b ∷ bytes)) (λ rest. lexed_from bound line rest) (lexeme-scanned (b ∷ bytes) u) k
 
 -- the texts in a line of UTF-8 are UTF-8
@@ -280,7 +263,7 @@ quoted_bytes-utf8 prefix (b ∷ bytes) u = by (eqb b 39) refl (λ v. quoted_byte
         → IsUtf8 (prefix ++ (cond t (39 ∷ 39 ∷ []) (b ∷ []) ++ flat_map quoted_byte bytes))
     by true e k m =
         let q : b ≡ 39 = (Decides-eqb b 39).0 e in
-        let w : IsUtf8 prefix × IsUtf8 bytes = ascii-split prefix b bytes (omega arith) u in
+        let w : IsUtf8 prefix × IsUtf8 bytes = cut-utf8 prefix b bytes (omega arith) u in
         IsUtf8-append prefix (39 ∷ 39 ∷ flat_map quoted_byte bytes) w.0
         (ascii-cons 39 (39 ∷ flat_map quoted_byte bytes) (omega arith) (ascii-cons 39 (flat_map quoted_byte bytes) (omega arith) (k w.1)))
     by false e k m = subst IsUtf8 (append_assoc prefix (b ∷ []) (flat_map quoted_byte bytes)) (m (subst IsUtf8 (sym (append_assoc prefix (b ∷ []) bytes)) u))

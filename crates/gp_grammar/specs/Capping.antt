@@ -70,22 +70,27 @@ capped_line line = record { session = line.session; command = capped_command lin
 
 abbrev pub capped_change : LogChange → LogChange
 capped_change (y.drop t k) = y.drop t k
+capped_change (y.drop_all t) = y.drop_all t
 capped_change (y.replace t k command) = y.replace t k (capped_command command)
 capped_change (y.add t command) = y.add t (capped_command command)
 
 abbrev pub capped_side : Side → Side
-capped_side (y.as_is kept) = y.as_is kept
-capped_side (y.changed change kept) = y.changed (capped_change change) kept
+capped_side (y.as_is subject) = y.as_is subject
+capped_side (y.changed changes subject) = y.changed (map capped_change changes) subject
 
 abbrev pub capped_question : Question → Question
 capped_question y.transactions = y.transactions
 capped_question (y.log t) = y.log t
 capped_question (y.versions table) = y.versions table
-capped_question (y.saw t k query) = y.saw t k (map capped_block query)
 capped_question (y.changes t k) = y.changes t k
 capped_question (y.commit_changes t) = y.commit_changes t
+capped_question (y.conflicts t) = y.conflicts t
+capped_question (y.history table cond) = y.history table (option_map capped cond)
+capped_question (y.when query) = y.when (map capped_block query)
+capped_question y.serial = y.serial
 capped_question y.check = y.check
 capped_question (y.diff first second query) = y.diff (capped_side first) (capped_side second) (map capped_block query)
-capped_question (y.causes kept query) = y.causes kept (map capped_block query)
-capped_question (y.ask how state query) = y.ask how state (map capped_block query)
-capped_question (y.what_if change how state query) = y.what_if (capped_change change) how state (map capped_block query)
+capped_question (y.causes subject query) = y.causes subject (map capped_block query)
+capped_question (y.ask subject query) = y.ask subject (map capped_block query)
+capped_question (y.what_if changes subject query) = y.what_if (map capped_change changes) subject (map capped_block query)
+capped_question (y.explain_saw t k query) = y.explain_saw t k (map capped_block query)

@@ -1,7 +1,7 @@
 -- Of the laws `terms_are_parsed`, `commands_are_parsed`, `questions_are_parsed` and `lines_are_read_once`: what is said of a parser, a grammar and the
 -- definitions of reading.
 use Rattle.std.specs.Prelude.{◌≡◌, ◌↔◌, ℕ, Bool, List, [], ◌∷◌, None, Ok, Err, true, false, ◌==◌, ◌&&◌}
-use Rattle.std.specs.List.{list_any}
+use Rattle.std.specs.List.{list_all, list_any}
 use Rattle.std.specs.Str.{IsUtf8}
 use Rattle.gp_lexer.specs.ProperLexemes.{AreProper}
 use Rattle.gp_grammar.specs.declared.limits.TheConstants.{MAX_OPEN}
@@ -64,17 +64,21 @@ ReadsLinesOnce Is shape = (lines : List (ℕ × Bytes)) → AreReadOnce Is shape
 
 abbrev pub has_statement : LogChange → Bool
 has_statement (y.drop t k) = true
+has_statement (y.drop_all t) = true
 has_statement (y.replace t k command) = is_statement command
 has_statement (y.add t command) = is_statement command
 
-abbrev pub side_has_statement : Side → Bool
-side_has_statement (y.as_is kept) = true
-side_has_statement (y.changed change kept) = has_statement change
+abbrev pub have_statements : List LogChange → Bool
+have_statements = list_all has_statement
+
+abbrev pub side_has_statements : Side → Bool
+side_has_statements (y.as_is subject) = true
+side_has_statements (y.changed changes subject) = have_statements changes
 
 -- the commands of the changes in a question
 abbrev pub has_statements : Question → Bool
-has_statements (y.what_if change how state query) = has_statement change
-has_statements (y.diff first second query) = side_has_statement first && side_has_statement second
+has_statements (y.what_if changes subject query) = have_statements changes
+has_statements (y.diff first second query) = side_has_statements first && side_has_statements second
 has_statements _ = true
 
 -- the command of a change that was read is a statement

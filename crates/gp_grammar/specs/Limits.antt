@@ -1,7 +1,7 @@
 -- Part of the statement: the limits on the shape of a line, which are tested after the syntax, limit by limit over the whole.
 use Rattle.std.specs.Prelude.{ℕ, suc, ◌+◌, max, Bool, List, [], ◌∷◌, ◌++◌, length, map, Option, Some, None, nat_lt, if◌then◌else◌}
 use Rattle.std.specs.List.{flat_map, list_any}
-use Rattle.gp_grammar.specs.declared.limits.TheConstants.{MAX_COLUMNS, MAX_FROM, MAX_BRANCHES, MAX_VALUES, MAX_NODES, MAX_LEVELS}
+use Rattle.gp_grammar.specs.declared.limits.TheConstants.{MAX_COLUMNS, MAX_FROM, MAX_BRANCHES, MAX_VALUES, MAX_NODES, MAX_LEVELS, MAX_CHANGES}
 use Rattle.gp_grammar.specs.Folding.{folded}
 use Rattle.gp_grammar.specs.Syntax as y
 use Rattle.gp_grammar.specs.Syntax.{Term, SetTerm, Item, Items, Block, Query, Command, ScriptLine, LogChange, Side, Question}
@@ -15,16 +15,17 @@ abbrev pub levels : Term → ℕ
 levels = folded (λ leaf. 1) suc max
 
 pub data Limit : Type 0 where
-  columns from branches values node_count depth : Limit
+  columns from branches values node_count depth change_count : Limit
 
 -- what the limits are on: the columns of a CREATE TABLE and of each written select list, the items of each FROM, the blocks, the tuples,
--- and each written term
+-- each written term, and the changes
 pub record Shape : Type 0 where
   pub columns : List ℕ
   pub from : List ℕ
   pub branches : ℕ
   pub values : ℕ
   pub terms : List Term
+  pub changes : ℕ
 
 abbrev pub terms_of_condition : Option Term → List Term
 terms_of_condition None = []
@@ -45,15 +46,16 @@ query_shape blocks = record {
   branches = length blocks;
   values = 0;
   terms = terms_of_query blocks;
+  changes = 0;
 }
 
 abbrev pub shape_of_terms : List Term → Shape
-shape_of_terms terms = record { columns = []; from = []; branches = 0; values = 0; terms = terms }
+shape_of_terms terms = record { columns = []; from = []; branches = 0; values = 0; terms = terms; changes = 0 }
 
 -- any other command has nothing that a limit is on
 abbrev pub command_shape : Command → Shape
-command_shape (y.create table) = record { columns = length table.cols ∷ []; from = []; branches = 0; values = 0; terms = [] }
-command_shape (y.insert table rows) = record { columns = []; from = []; branches = 0; values = length rows; terms = [] }
+command_shape (y.create table) = record { columns = length table.cols ∷ []; from = []; branches = 0; values = 0; terms = []; changes = 0 }
+command_shape (y.insert table rows) = record { columns = []; from = []; branches = 0; values = length rows; terms = []; changes = 0 }
 command_shape (y.insert_select table query) = query_shape query
 command_shape (y.update table sets cond) = shape_of_terms (map (λ (set : SetTerm). set.term) sets ++ terms_of_condition cond)
 command_shape (y.delete table cond) = shape_of_terms (terms_of_condition cond)
@@ -65,10 +67,11 @@ line_shape line = command_shape line.command
 
 abbrev pub change_shape : LogChange → Shape
 change_shape (y.drop t k) = shape_of_terms []
+change_shape (y.drop_all t) = shape_of_terms []
 change_shape (y.replace t k command) = command_shape command
 change_shape (y.add t command) = command_shape command
 
--- two parts as one whole; each query and each VALUES is of its own length
+-- two parts as one whole; each query, each VALUES and each WHATIF is of its own length
 abbrev pub both : Shape → Shape → Shape
 both a b = record {
   columns = a.columns ++ b.columns;
@@ -76,19 +79,34 @@ both a b = record {
   branches = max a.branches b.branches;
   values = max a.values b.values;
   terms = a.terms ++ b.terms;
+  changes = max a.changes b.changes;
 }
 
+-- so many changes
+abbrev pub shape_of_count : ℕ → Shape
+shape_of_count count = record { columns = []; from = []; branches = 0; values = 0; terms = []; changes = count }
+
+-- the commands of changes as one whole
+abbrev pub commands_shape : List LogChange → Shape
+commands_shape [] = shape_of_terms []
+commands_shape (change ∷ changes) = both (change_shape change) (commands_shape changes)
+
+abbrev pub changes_shape : List LogChange → Shape
+changes_shape changes = both (shape_of_count (length changes)) (commands_shape changes)
+
 abbrev pub side_shape : Side → Shape
-side_shape (y.as_is kept) = shape_of_terms []
-side_shape (y.changed change kept) = change_shape change
+side_shape (y.as_is subject) = shape_of_terms []
+side_shape (y.changed changes subject) = changes_shape changes
 
 -- any other question has nothing that a limit is on
 abbrev pub question_shape : Question → Shape
-question_shape (y.saw t k query) = query_shape query
+question_shape (y.history table cond) = shape_of_terms (terms_of_condition cond)
+question_shape (y.when query) = query_shape query
 question_shape (y.diff first second query) = both (both (side_shape first) (side_shape second)) (query_shape query)
-question_shape (y.causes kept query) = query_shape query
-question_shape (y.ask how state query) = query_shape query
-question_shape (y.what_if change how state query) = both (change_shape change) (query_shape query)
+question_shape (y.causes subject query) = query_shape query
+question_shape (y.ask subject query) = query_shape query
+question_shape (y.what_if changes subject query) = both (changes_shape changes) (query_shape query)
+question_shape (y.explain_saw t k query) = query_shape query
 question_shape _ = shape_of_terms []
 
 abbrev pub some_above : ℕ → List ℕ → Bool
@@ -103,4 +121,5 @@ passed_limit shape =
     else (if nat_lt MAX_VALUES shape.values then Some values
     else (if some_above MAX_NODES (map nodes shape.terms) then Some node_count
     else (if some_above MAX_LEVELS (map levels shape.terms) then Some depth
-    else None)))))
+    else (if nat_lt MAX_CHANGES shape.changes then Some change_count
+    else None))))))

@@ -10,8 +10,8 @@ use Rattle.gp_grammar.specs.declared.token_kind.TokenKind.{TokenKind}
 use Rattle.gp_grammar.specs.declared.token_kind.TokenKind.TheVariants as token
 use Rattle.gp_grammar.specs.declared.limits.TheConstants.{MAX_PATTERN_NUMBER}
 use Rattle.gp_grammar.specs.Syntax as y
-use Rattle.gp_grammar.specs.Syntax.{Lexemes, Bytes, Command, Point, Pattern, Rule, rule_of, Rules, How, Query, LogChange, Kept, Side, Question}
-use Rattle.gp_grammar.specs.CommandGrammar.{IsList, comma, IsQuery, IsStatement, Closed, is_number_without_zero}
+use Rattle.gp_grammar.specs.Syntax.{Lexemes, Bytes, Term, Command, Point, Pattern, Rule, rule_of, Rules, How, Query, LogChange, Subject, Side, Question}
+use Rattle.gp_grammar.specs.CommandGrammar.{IsList, comma, IsWhere, IsQuery, IsStatement, Closed, is_number_without_zero}
 
 pub data IsPoint : Lexemes → Point → Type 0 where
   as_of : (v : ℕ) → IsPoint (Sign s.As ∷ Word (codes "of") ∷ Number v ∷ []) (y.as_of v)
@@ -77,16 +77,23 @@ pub data IsHow : Lexemes → How → Type 0 where
   without : (a : Lexemes) (rules : List Rule) → IsList comma IsLeftOut a rules
       → IsHow (Word (codes "without") ∷ (a ++ (Word (codes "of") ∷ []))) (y.without rules)
 
-pub data IsAsk : Lexemes → How → Point → Query → Type 0 where
-  asked : (a b q : Lexemes) (how : How) (state : Point) (query : Query) → IsHow a how → IsPoint b state → IsQuery q query
-      → IsAsk (a ++ (b ++ q)) how state query
+pub data IsSaw : Lexemes → Subject → Type 0 where
+  saw : (t k : ℕ) → IsSaw (Word (codes "saw") ∷ Number t ∷ Word (codes "after") ∷ Number k ∷ []) (y.saw t k)
+
+pub data IsSubject : Lexemes → Subject → Type 0 where
+  of_state : (a b : Lexemes) (how : How) (state : Point) → IsHow a how → IsPoint b state → IsSubject (a ++ b) (y.of_state how state)
+  of_saw : (a : Lexemes) (subject : Subject) → IsSaw a subject → IsSubject a subject
 
 pub data IsChange : Lexemes → LogChange → Type 0 where
   drop : (t k : ℕ) → IsChange (Word (codes "drop") ∷ Number t ∷ Number k ∷ []) (y.drop t k)
+  drop_all : (t : ℕ) → IsChange (Word (codes "drop") ∷ Number t ∷ []) (y.drop_all t)
   replace : (t k : ℕ) (a : Lexemes) (x : Command) → IsStatement a x
       → IsChange (Word (codes "replace") ∷ Number t ∷ Number k ∷ Word (codes "by") ∷ Sign s.Open ∷ (a ++ (Sign s.Close ∷ []))) (y.replace t k x)
   add : (t : ℕ) (a : Lexemes) (x : Command) → IsStatement a x
       → IsChange (Word (codes "add") ∷ Number t ∷ Word (codes "by") ∷ Sign s.Open ∷ (a ++ (Sign s.Close ∷ []))) (y.add t x)
+
+abbrev pub IsChanges : Lexemes → List LogChange → Type 0
+IsChanges = IsList comma IsChange
 
 -- the rows of a state, or those that are left without some tokens
 pub data IsKeptHow : Lexemes → How → Type 0 where
@@ -94,30 +101,40 @@ pub data IsKeptHow : Lexemes → How → Type 0 where
   remaining : (a : Lexemes) (rules : List Rule) → IsList comma IsLeftOut a rules
       → IsKeptHow (Word (codes "without") ∷ (a ++ (Word (codes "of") ∷ []))) (y.without rules)
 
-pub data IsKept : Lexemes → Kept → Type 0 where
-  kept : (a b : Lexemes) (how : How) (state : Point) → IsKeptHow a how → IsPoint b state → IsKept (a ++ b) (record { how = how; state = state })
+pub data IsKept : Lexemes → Subject → Type 0 where
+  kept : (a b : Lexemes) (how : How) (state : Point) → IsKeptHow a how → IsPoint b state → IsKept (a ++ b) (y.of_state how state)
+
+-- what a side may be about
+pub data IsSideSubject : Lexemes → Subject → Type 0 where
+  kept_side : (a : Lexemes) (subject : Subject) → IsKept a subject → IsSideSubject a subject
+  saw_side : (a : Lexemes) (subject : Subject) → IsSaw a subject → IsSideSubject a subject
 
 pub data IsSide : Lexemes → Side → Type 0 where
-  as_is : (a : Lexemes) (kept : Kept) → IsKept a kept → IsSide a (y.as_is kept)
-  changed : (a b : Lexemes) (change : LogChange) (kept : Kept) → IsChange a change → IsKept b kept
-      → IsSide (Word (codes "whatif") ∷ (a ++ (Word (codes "of") ∷ b))) (y.changed change kept)
+  as_is : (a : Lexemes) (subject : Subject) → IsSideSubject a subject → IsSide a (y.as_is subject)
+  changed : (a b : Lexemes) (changes : List LogChange) (subject : Subject) → IsChanges a changes → IsSideSubject b subject
+      → IsSide (Word (codes "whatif") ∷ (a ++ (Word (codes "of") ∷ b))) (y.changed changes subject)
 
 pub data IsOpenQuestion : Lexemes → Question → Type 0 where
   transactions : IsOpenQuestion (Word (codes "transactions") ∷ []) y.transactions
   log : (t : ℕ) → IsOpenQuestion (Word (codes "log") ∷ Number t ∷ []) (y.log t)
   versions : (table : Bytes) → IsOpenQuestion (Word (codes "versions") ∷ Word (codes "of") ∷ Word table ∷ []) (y.versions table)
-  saw : (t k : ℕ) (a : Lexemes) (query : Query) → IsQuery a query
-      → IsOpenQuestion (Word (codes "saw") ∷ Number t ∷ Word (codes "after") ∷ Number k ∷ a) (y.saw t k query)
   changes : (t k : ℕ) → IsOpenQuestion (Word (codes "changes") ∷ Number t ∷ Number k ∷ []) (y.changes t k)
   commit_changes : (t : ℕ) → IsOpenQuestion (Word (codes "changes") ∷ Number t ∷ Sign s.Commit ∷ []) (y.commit_changes t)
+  conflicts : (t : ℕ) → IsOpenQuestion (Word (codes "conflicts") ∷ Number t ∷ []) (y.conflicts t)
+  history : (table : Bytes) (a : Lexemes) (cond : Option Term) → IsWhere a cond
+      → IsOpenQuestion (Word (codes "history") ∷ Word (codes "of") ∷ Word table ∷ a) (y.history table cond)
+  when : (a : Lexemes) (query : Query) → IsQuery a query → IsOpenQuestion (Sign s.When ∷ a) (y.when query)
+  serial : IsOpenQuestion (Word (codes "serial") ∷ []) y.serial
   check : IsOpenQuestion (Word (codes "check") ∷ []) y.check
   diff : (a b c : Lexemes) (first second : Side) (query : Query) → IsSide a first → IsSide b second → IsQuery c query
       → IsOpenQuestion (Word (codes "diff") ∷ (a ++ (Word (codes "to") ∷ (b ++ c)))) (y.diff first second query)
-  causes : (a b : Lexemes) (kept : Kept) (query : Query) → IsKept a kept → IsQuery b query
-      → IsOpenQuestion (Word (codes "causes") ∷ Word (codes "of") ∷ (a ++ b)) (y.causes kept query)
-  ask : (a : Lexemes) (how : How) (state : Point) (query : Query) → IsAsk a how state query → IsOpenQuestion a (y.ask how state query)
-  what_if : (a b : Lexemes) (change : LogChange) (how : How) (state : Point) (query : Query) → IsChange a change → IsAsk b how state query
-      → IsOpenQuestion (Word (codes "whatif") ∷ (a ++ (Word (codes "of") ∷ b))) (y.what_if change how state query)
+  causes : (a b : Lexemes) (subject : Subject) (query : Query) → IsKept a subject → IsQuery b query
+      → IsOpenQuestion (Word (codes "causes") ∷ Word (codes "of") ∷ (a ++ b)) (y.causes subject query)
+  ask : (a b : Lexemes) (subject : Subject) (query : Query) → IsSubject a subject → IsQuery b query → IsOpenQuestion (a ++ b) (y.ask subject query)
+  what_if : (a b c : Lexemes) (changes : List LogChange) (subject : Subject) (query : Query) → IsChanges a changes → IsSubject b subject → IsQuery c query
+      → IsOpenQuestion (Word (codes "whatif") ∷ (a ++ (Word (codes "of") ∷ (b ++ c)))) (y.what_if changes subject query)
+  explain_saw : (t k : ℕ) (a : Lexemes) (query : Query) → IsQuery a query
+      → IsOpenQuestion (Word (codes "explain") ∷ Word (codes "saw") ∷ Number t ∷ Word (codes "after") ∷ Number k ∷ a) (y.explain_saw t k query)
 
 -- the lexemes are a question
 abbrev pub IsQuestion : Lexemes → Question → Type 0

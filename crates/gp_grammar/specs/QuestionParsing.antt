@@ -8,10 +8,10 @@ use Rattle.gp_grammar.specs.declared.token_kind.TokenKind.{TokenKind}
 use Rattle.gp_grammar.specs.declared.token_kind.TokenKind.TheVariants as token
 use Rattle.gp_grammar.specs.declared.limits.TheConstants.{MAX_PATTERN_NUMBER}
 use Rattle.gp_grammar.specs.Syntax as y
-use Rattle.gp_grammar.specs.Syntax.{Lexemes, Bytes, Command, Point, Pattern, Rule, rule_of, Rules, How, Query, LogChange, Kept, Side, Question}
+use Rattle.gp_grammar.specs.Syntax.{Lexemes, Bytes, Command, Point, Pattern, Rule, rule_of, Rules, How, Query, LogChange, Subject, Side, Question}
 use Rattle.gp_grammar.specs.QuestionGrammar.{pattern_name}
 use Rattle.gp_grammar.specs.Parsing.{Parser, ◌>>=◌, by_option, expect, identifier}
-use Rattle.gp_grammar.specs.CommandParsing.{◌then◌, where_next, fail, accept, where_word, expect_word, push, separated, in_brackets, query, statement, closed}
+use Rattle.gp_grammar.specs.CommandParsing.{◌then◌, where_next, fail, accept, where_word, expect_word, push, separated, in_brackets, condition, query, statement, closed}
 
 -- ---- numbers
 
@@ -102,27 +102,66 @@ left_out ts = pattern ts >>= (λ p. Ok (rule_of p.0 0, p.1))
 unfoldable pub without : Parser How
 without ts = separated left_out ts >>= (λ rules. expect_word (codes "of") (accept (y.without rules.0)) rules.1)
 
+-- after EXPLAIN
+abbrev pub explained : Parser How
+explained = where_word (codes "provenance") (expect_word (codes "of") (accept (y.explain true))) (accept (y.explain false))
+
 unfoldable pub how : Parser How
-how = where_word (codes "explain") (where_word (codes "provenance") (expect_word (codes "of") (accept (y.explain true))) (accept (y.explain false)))
+how = where_word (codes "explain") explained
     (where_word (codes "provenance") (expect_word (codes "of") (accept y.provenance))
     (where_word (codes "value") value (where_word (codes "without") without (accept y.rows))))
 
--- what is asked, of which state, by which query
-unfoldable pub ask : {A : Type 0} → (How → Point → Query → A) → Parser A
-ask question ts = do
+unfoldable pub kept_how : Parser How
+kept_how = where_word (codes "without") without (accept y.rows)
+
+-- ---- subjects
+
+-- a state, after what is asked for of it
+unfoldable pub of_state : Parser How → Parser Subject
+of_state how ts = do
   how ← how ts
   state ← state how.1
-  query ← query state.1
-  Ok (question how.0 state.0 query.0, query.1)
+  Ok (y.of_state how.0 state.0, state.1)
+
+-- after SAW: a transaction and how many of its statements
+unfoldable pub saw_numbers : Parser (ℕ × ℕ)
+saw_numbers ts = number ts >>= (λ t. expect_word (codes "after") (λ rest. number rest >>= (λ k. Ok ((t.0, k.0), k.1))) t.1)
+
+unfoldable pub saw : Parser Subject
+saw ts = saw_numbers ts >>= (λ n. Ok (y.saw n.0.0 n.0.1, n.1))
+
+unfoldable pub subject : Parser Subject
+subject = where_word (codes "saw") saw (of_state how)
+
+abbrev pub kept : Parser Subject
+kept = of_state kept_how
+
+unfoldable pub side_subject : Parser Subject
+side_subject = where_word (codes "saw") saw kept
+
+-- a query, after the subject that it is asked of
+unfoldable pub asked_of : (Subject → Query → Question) → Parser Subject → Parser Question
+asked_of question subject ts = do
+  subject ← subject ts
+  query ← query subject.1
+  Ok (question subject.0 query.0, query.1)
+
+-- ---- changes
 
 abbrev pub by_statement : Parser Command
 by_statement = expect_word (codes "by") (in_brackets statement)
 
+-- after DROP and a transaction: the number of a statement or none
+abbrev pub dropped_from : ℕ → Parser LogChange
+dropped_from t [] = Ok (y.drop_all t, [])
+dropped_from t (Number k ∷ ts) = Ok (y.drop t k, ts)
+dropped_from t (Sign symbol ∷ ts) = Ok (y.drop_all t, Sign symbol ∷ ts)
+dropped_from t (Word word ∷ ts) = Ok (y.drop_all t, Word word ∷ ts)
+dropped_from t (Big ∷ ts) = Ok (y.drop_all t, Big ∷ ts)
+dropped_from t (Text bytes ∷ ts) = Ok (y.drop_all t, Text bytes ∷ ts)
+
 unfoldable pub dropped : Parser LogChange
-dropped ts = do
-  t ← number ts
-  k ← number t.1
-  Ok (y.drop t.0 k.0, k.1)
+dropped ts = number ts >>= (λ t. dropped_from t.0 t.1)
 
 unfoldable pub replaced : Parser LogChange
 replaced ts = do
@@ -140,38 +179,42 @@ added ts = do
 unfoldable pub change : Parser LogChange
 change = where_word (codes "drop") dropped (where_word (codes "replace") replaced (expect_word (codes "add") added))
 
-unfoldable pub what_if : Parser Question
-what_if ts = change ts >>= (λ change. expect_word (codes "of") (ask (y.what_if change.0)) change.1)
+abbrev pub changes_of : Parser (List LogChange)
+changes_of = separated change
 
-unfoldable pub saw : Parser Question
-saw ts = number ts >>= (λ t. expect_word (codes "after") (λ rest. do
-  k ← number rest
-  query ← query k.1
-  Ok (y.saw t.0 k.0 query.0, query.1)) t.1)
+-- ---- sides
+
+unfoldable pub as_is_side : Parser Side
+as_is_side ts = side_subject ts >>= (λ subject. Ok (y.as_is subject.0, subject.1))
+
+unfoldable pub changed_side : Parser Side
+changed_side ts = changes_of ts
+    >>= (λ changes. expect_word (codes "of") (λ rest. side_subject rest >>= (λ subject. Ok (y.changed changes.0 subject.0, subject.1))) changes.1)
+
+unfoldable pub side : Parser Side
+side = where_word (codes "whatif") changed_side as_is_side
+
+-- ---- questions
+
+unfoldable pub what_if : Parser Question
+what_if ts = changes_of ts >>= (λ changes. expect_word (codes "of") (asked_of (y.what_if changes.0) subject) changes.1)
+
+-- after EXPLAIN SAW
+unfoldable pub explained_saw : Parser Question
+explained_saw ts = saw_numbers ts >>= (λ n. query n.1 >>= (λ query. Ok (y.explain_saw n.0.0 n.0.1 query.0, query.1)))
 
 unfoldable pub changes : Parser Question
 changes ts = number ts >>= (λ t. where_next s.Commit (accept (y.commit_changes t.0)) (λ rest. number rest >>= (λ k. Ok (y.changes t.0 k.0, k.1))) t.1)
 
-unfoldable pub kept_how : Parser How
-kept_how = where_word (codes "without") without (accept y.rows)
+-- after HISTORY OF
+unfoldable pub history : Parser Question
+history ts = do
+  table ← identifier ts
+  cond ← condition table.1
+  Ok (y.history table.0 cond.0, cond.1)
 
-abbrev pub kept_of : How → Point → Kept
-kept_of how state = record { how = how; state = state }
-
-unfoldable pub kept : Parser Kept
-kept ts = do
-  how ← kept_how ts
-  state ← state how.1
-  Ok (kept_of how.0 state.0, state.1)
-
-unfoldable pub as_is_side : Parser Side
-as_is_side ts = kept ts >>= (λ kept. Ok (y.as_is kept.0, kept.1))
-
-unfoldable pub changed_side : Parser Side
-changed_side ts = change ts >>= (λ change. expect_word (codes "of") (λ rest. kept rest >>= (λ kept. Ok (y.changed change.0 kept.0, kept.1))) change.1)
-
-unfoldable pub side : Parser Side
-side = where_word (codes "whatif") changed_side as_is_side
+unfoldable pub when : Parser Question
+when ts = query ts >>= (λ query. Ok (y.when query.0, query.1))
 
 -- behind the first side
 unfoldable pub second_side : Side → Parser Question
@@ -183,22 +226,18 @@ second_side first ts = do
 unfoldable pub diff : Parser Question
 diff ts = side ts >>= (λ first. expect_word (codes "to") (second_side first.0) first.1)
 
--- behind CAUSES OF
-unfoldable pub caused : Parser Question
-caused ts = do
-  kept ← kept ts
-  query ← query kept.1
-  Ok (y.causes kept.0 query.0, query.1)
-
 abbrev pub versions_of : Parser Question
 versions_of = expect_word (codes "of") (λ ts. identifier ts >>= (λ table. Ok (y.versions table.0, table.1)))
 
 -- a question, by its first word; each of these takes what the words before it do not
+abbrev pub from_explain : Parser Question
+from_explain = where_word (codes "explain") (where_word (codes "saw") explained_saw (asked_of y.ask (of_state explained))) (asked_of y.ask subject)
+
 abbrev pub from_what_if : Parser Question
-from_what_if = where_word (codes "whatif") what_if (ask y.ask)
+from_what_if = where_word (codes "whatif") what_if from_explain
 
 abbrev pub from_causes : Parser Question
-from_causes = where_word (codes "causes") (expect_word (codes "of") caused) from_what_if
+from_causes = where_word (codes "causes") (expect_word (codes "of") (asked_of y.causes kept)) from_what_if
 
 abbrev pub from_diff : Parser Question
 from_diff = where_word (codes "diff") diff from_causes
@@ -206,14 +245,23 @@ from_diff = where_word (codes "diff") diff from_causes
 abbrev pub from_check : Parser Question
 from_check = where_word (codes "check") (accept y.check) from_diff
 
-abbrev pub from_changes : Parser Question
-from_changes = where_word (codes "changes") changes from_check
+abbrev pub from_serial : Parser Question
+from_serial = where_word (codes "serial") (accept y.serial) from_check
 
-abbrev pub from_saw : Parser Question
-from_saw = where_word (codes "saw") saw from_changes
+abbrev pub from_when : Parser Question
+from_when = where_next s.When when from_serial
+
+abbrev pub from_history : Parser Question
+from_history = where_word (codes "history") (expect_word (codes "of") history) from_when
+
+abbrev pub from_conflicts : Parser Question
+from_conflicts = where_word (codes "conflicts") (λ ts. number ts >>= (λ t. Ok (y.conflicts t.0, t.1))) from_history
+
+abbrev pub from_changes : Parser Question
+from_changes = where_word (codes "changes") changes from_conflicts
 
 abbrev pub from_transactions : Parser Question
-from_transactions = where_word (codes "transactions") (accept y.transactions) from_saw
+from_transactions = where_word (codes "transactions") (accept y.transactions) from_changes
 
 abbrev pub from_versions : Parser Question
 from_versions = where_word (codes "versions") versions_of from_transactions

@@ -110,34 +110,42 @@ pub data How : Type 0 where
   value : SemiringName → List Rule → Option ℕ → How
   without : List Rule → How
 
--- a change of a transaction: without its statement k, with another command in its place, or with one more at its end
+-- a change of a transaction: without its statement k, without any of its statements, with another command in the place of statement k, or with one
+-- more at its end
 pub data LogChange : Type 0 where
   drop : ℕ → ℕ → LogChange
+  drop_all : ℕ → LogChange
   replace : ℕ → ℕ → Command → LogChange
   add : ℕ → Command → LogChange
 
--- a state as it is, or without the rows of some tokens: what a question asks for of it is its rows, or those that are left without the tokens
-pub record Kept : Type 0 where
-  pub how : How
-  pub state : Point
+-- what a query is asked of: a state, of which it asks for something, or what a transaction saw after its first statements, whatever became of it
+pub data Subject : Type 0 where
+  of_state : How → Point → Subject
+  saw : ℕ → ℕ → Subject
 
--- one of the two sides of a difference: a state, or the state that there would be with a change
+-- one of the two sides of a difference: of the history, or of the one that there would be with some changes, made one after another
 pub data Side : Type 0 where
-  as_is : Kept → Side
-  changed : LogChange → Kept → Side
+  as_is : Subject → Side
+  changed : List LogChange → Subject → Side
 
--- A question. `saw` asks for the rows that a query gives over what a transaction saw, `changes` and `commit_changes` for the rows that a statement or a commit
--- changed, `check` whether the dump is that of a history, `diff` for the difference between the rows of two sides, `causes` for the statements without which the rows
--- would be others. `what_if` asks of the states that there would be with a change.
+-- A question. `changes` and `commit_changes` ask for the rows that a statement or a commit changed, `conflicts` for those on which a transaction met
+-- others, `history` for what changed the rows of a table on which a condition is true, `when` for the versions in which each row of a query is there,
+-- `serial` whether the transactions could have run one after another, `check` whether the dump is that of a history, `diff` for the difference between the
+-- rows of two sides, `causes` for the statements without which the rows would be others. `what_if` asks of the history that there would be with some
+-- changes, made one after another. `explain_saw` asks for the query that computes what a transaction saw.
 pub data Question : Type 0 where
   transactions : Question
   log : ℕ → Question
   versions : Bytes → Question
-  saw : ℕ → ℕ → Query → Question
   changes : ℕ → ℕ → Question
   commit_changes : ℕ → Question
+  conflicts : ℕ → Question
+  history : Bytes → Option Term → Question
+  when : Query → Question
+  serial : Question
   check : Question
   diff : Side → Side → Query → Question
-  causes : Kept → Query → Question
-  ask : How → Point → Query → Question
-  what_if : LogChange → How → Point → Query → Question
+  causes : Subject → Query → Question
+  ask : Subject → Query → Question
+  what_if : List LogChange → Subject → Query → Question
+  explain_saw : ℕ → ℕ → Query → Question

@@ -29,3 +29,6 @@ pub const MAX_SESSION: u64 = 64;
 
 /// The number of a statement or a row in a pattern of tokens is at most this.
 pub const MAX_PATTERN_NUMBER: u64 = 999_999_999;
+
+/// A WHATIF has at most this many changes.
+pub const MAX_CHANGES: usize = 16;

@@ -1,5 +1,5 @@
 -- Reading a text byte by byte: the bytes so far, and what the rest is read as.
-use Rattle.std.proofs.Common.{◌≡◌, ℕ, eqb, Bool, false, List, [], ◌∷◌, ◌++◌, Some, None, refl, sym, ap, append_assoc}
+use Rattle.std.proofs.Common.{◌≡◌, ℕ, List, [], ◌∷◌, ◌++◌, Some, None, refl, sym, ap, append_assoc}
 use Rattle.std.proofs.lemmas.List.{append-nil}
 use Rattle.gp_lexer.specs.Lexing.{Quoted, with_byte}
 

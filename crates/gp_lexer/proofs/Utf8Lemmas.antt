@@ -54,7 +54,7 @@ passing-low test low (b ∷ bytes) = subst AreLow (sym (take_while-cons test b b
     by true e others = (low b e, others)
     by false e others = tt
 
-after-utf8 : (test : ℕ → Bool) → ((b : ℕ) → test b ≡ true → b < 128) → (bytes : List ℕ) → IsUtf8 bytes → IsUtf8 (drop (prefix_len test bytes) bytes)
+pub after-utf8 : (test : ℕ → Bool) → ((b : ℕ) → test b ≡ true → b < 128) → (bytes : List ℕ) → IsUtf8 bytes → IsUtf8 (drop (prefix_len test bytes) bytes)
 after-utf8 test low bytes h =
     behind-utf8 (take_while test bytes) (drop (prefix_len test bytes) bytes) (passing-low test low bytes) (subst IsUtf8 (sym (take-append-drop (prefix_len test bytes) bytes)) h)
 

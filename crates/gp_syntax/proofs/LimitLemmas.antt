@@ -5,20 +5,22 @@ use Rattle.std.proofs.lemmas.List.{length-map}
 use Rattle.std.proofs.lemmas.List.Folds.{list_any-append}
 use Rattle.std.specs.List.{flat_map, list_any}
 use Rattle.std.specs.Option.{option_map}
+use Rattle.gp_base.specs.declared.limit.Limit.{Limit}
 use Rattle.gp_base.specs.declared.limit.Limit.TheVariants as limit
 use Rattle.gp_grammar.specs.declared.limits.TheConstants.{MAX_BRANCHES, MAX_COLUMNS, MAX_FROM, MAX_NODES, MAX_LEVELS}
 use Rattle.gp_grammar.specs.Syntax as y
 use Rattle.gp_grammar.specs.Syntax.{Term}
 use Rattle.gp_grammar.specs.Limits as g
-use Rattle.gp_grammar.specs.Limits.{Shape, nodes, levels, select_terms, some_above, passed_limit, both, query_shape, terms_of_query}
+use Rattle.gp_grammar.specs.Limits.{Shape, nodes, levels, select_terms, some_above, passed_limit, both, query_shape, terms_of_query, change_shape, commands_shape}
 use Rattle.gp_grammar.proofs.BothLemmas as parts
 use Rattle.gp_grammar.proofs.BothLemmas.{both-limit}
 use Rattle.gp_syntax.specs.declared.term.Term as r
 use Rattle.gp_syntax.specs.declared.command.Block.{Block}
 use Rattle.gp_syntax.specs.declared.command.SetTerm.{SetTerm}
 use Rattle.gp_syntax.specs.declared.limits.Measure.{Measure}
+use Rattle.gp_syntax.specs.declared.question.LogChange.{LogChange}
 use Rattle.gp_syntax.specs.Refusals.{limit_of}
-use Rattle.gp_syntax.specs.Views.{block_view, item_view, items_view, set_view, term_view}
+use Rattle.gp_syntax.specs.Views.{block_view, change_view, changes_view, item_view, items_view, set_view, term_view}
 use Rattle.gp_syntax.specs.declared.limits.Measure.TheVariants.{Nodes, Levels}
 use Rattle.gp_syntax.specs.Measures.{is_above, are_above, earlier, rank, set_term_of, terms_limit, term_limit, terms_of_block, terms_of_sets}
 use Rattle.gp_base.proofs.SmallLemmas.{any-map, or_nothing}
@@ -100,6 +102,7 @@ rank-of g.branches = refl
 rank-of g.values = refl
 rank-of g.node_count = refl
 rank-of g.depth = refl
+rank-of g.change_count = refl
 
 earlier-of : (x y : Option g.Limit) → option_map limit_of (parts.earlier x y) ≡ earlier (option_map limit_of x) (option_map limit_of y)
 earlier-of None y = refl
@@ -115,3 +118,52 @@ earlier-of (Some x) (Some y) =
 
 pub whole-limit : (x y : Shape) → option_map limit_of (passed_limit (both x y)) ≡ earlier (option_map limit_of (passed_limit x)) (option_map limit_of (passed_limit y))
 whole-limit x y = ap (option_map limit_of) (both-limit x y) ∙ earlier-of (passed_limit x) (passed_limit y)
+
+-- ---- the first limit of many
+
+earlier-none : (x : Option Limit) → earlier x None ≡ x
+earlier-none None = refl
+earlier-none (Some a) = refl
+
+earlier-assoc : (x y z : Option Limit) → earlier (earlier x y) z ≡ earlier x (earlier y z)
+earlier-assoc None y z = refl
+earlier-assoc (Some a) None z = refl
+earlier-assoc (Some a) (Some b) None = earlier-none (earlier (Some a) (Some b))
+earlier-assoc (Some a) (Some b) (Some c) =
+    left (nat_lt (rank b) (rank a))
+    ∙ by (nat_lt (rank b) (rank a)) (nat_lt (rank c) (rank b)) (nat_lt (rank c) (rank a)) refl refl refl
+    ∙ sym (right (nat_lt (rank c) (rank b)))
+  where
+    left : (p : Bool) → earlier (cond p (Some b) (Some a)) (Some c) ≡ cond p (earlier (Some b) (Some c)) (earlier (Some a) (Some c))
+    left true = refl
+    left false = refl
+
+    right : (q : Bool) → earlier (Some a) (cond q (Some c) (Some b)) ≡ cond q (earlier (Some a) (Some c)) (earlier (Some a) (Some b))
+    right true = refl
+    right false = refl
+
+    by : (p q r : Bool) → nat_lt (rank b) (rank a) ≡ p → nat_lt (rank c) (rank b) ≡ q → nat_lt (rank c) (rank a) ≡ r
+        → cond p (cond q (Some c) (Some b)) (cond r (Some c) (Some a)) ≡ cond q (cond r (Some c) (Some a)) (cond p (Some b) (Some a))
+    by true true true e f g = refl
+    by true true false e f g = absurd (grind (arith, nat_tests))
+    by true false r e f g = refl
+    by false true r e f g = refl
+    by false false true e f g = absurd (grind (arith, nat_tests))
+    by false false false e f g = refl
+
+abbrev pub limit_of_change : LogChange → Option Limit
+limit_of_change change = option_map limit_of (passed_limit (change_shape (change_view change)))
+
+abbrev pub limit_of_commands : List LogChange → Option Limit
+limit_of_commands changes = option_map limit_of (passed_limit (commands_shape (changes_view changes)))
+
+-- one more change, before those that are left
+pub commands-step : (found : Option Limit) (change : LogChange) (left : List LogChange)
+    → earlier (earlier found (limit_of_change change)) (limit_of_commands left) ≡ earlier found (limit_of_commands (change ∷ left))
+commands-step found change left =
+    earlier-assoc found (limit_of_change change) (limit_of_commands left)
+    ∙ ap (earlier found) (sym (whole-limit (change_shape (change_view change)) (commands_shape (changes_view left))))
+
+-- no change is left
+pub commands-end : (found : Option Limit) → found ≡ earlier found (limit_of_commands [])
+commands-end found = sym (earlier-none found)

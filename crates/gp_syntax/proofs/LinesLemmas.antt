@@ -1,9 +1,10 @@
 -- The first of std's lines, found by the first line feed, and the order of the numbers of lines.
-use Rattle.std.proofs.Common.{◌≡◌, ℕ, zero, suc, ◌+◌, ◌<◌, ◌≤◌, Bool, true, false, eqb, cond, List, [], ◌∷◌, length, take, drop, filter, refl, ap, suc-add, ◌∙◌, arith, inl, inr}
-use Rattle.std.specs.List.{AllByRecursion, position_or_len, slice_split, enumerate_from, before_first, after_first}
+use Rattle.std.proofs.Common.{◌≡◌, ℕ, zero, suc, ◌+◌, ◌-◌, ◌<◌, ◌≤◌, Bool, true, false, eqb, eqb-true, cond, List, [], ◌∷◌, ◌++◌, length, take, drop, get_or, filter, refl, ap, suc-add, ◌∙◌, arith, inl, inr}
+use Rattle.std.specs.Char.{is_ascii_control}
+use Rattle.std.specs.List.{AllByRecursion, list_any, onto_first, position_or_len, slice_split, enumerate_from, before_first, after_first}
 use Rattle.std.specs.List.Sorted.{IsStrictlyIncreasing}
 use Rattle.std.specs.Str.Lines.{lines, lines_of_parts, strip_carriage_return}
-use Rattle.std.proofs.lemmas.Bool.{cases_Bool, cond-false, ne_eqb}
+use Rattle.std.proofs.lemmas.Bool.{cases_Bool, cond-false, ne_eqb, or_parts}
 use Rattle.std.proofs.lemmas.List.Elements.{All-from_recursion}
 use Rattle.std.proofs.lemmas.List.Splits.{slice_split_first, slice_split_none, length-slice_split}
 use Rattle.gp_syntax.specs.Lines.{is_answered, script_lines}
@@ -44,6 +45,37 @@ lines-open [] some far = absurd (omega (arith, some))
 lines-open (byte ∷ bytes) some far =
     ap lines_of_parts (slice_split_none is_feed (byte ∷ bytes) (All-from_recursion (λ b. is_feed b ≡ false) (byte ∷ bytes) (no_feed (byte ∷ bytes) far)))
     ∙ cond-false (eqb (length (byte ∷ bytes)) 0) [] ((byte ∷ bytes) ∷ []) (ne_eqb (length (byte ∷ bytes)) 0 (λ e. absurd (omega arith)))
+
+-- ---- a text without control characters is the first line, where a line feed follows it
+
+-- a control character is in no text that has none
+plain-without : (c : ℕ) (text : List ℕ) → is_ascii_control c ≡ true → list_any is_ascii_control text ≡ false → list_any (λ b. eqb b c) text ≡ false
+plain-without c [] control e = refl
+plain-without c (b ∷ text) control e =
+    let h = or_parts (is_ascii_control b) (list_any is_ascii_control text) e in
+    rw (other (eqb b c) refl h.0) (plain-without c text control h.1)
+  where
+    other : (x : Bool) → eqb b c ≡ x → is_ascii_control b ≡ false → eqb b c ≡ false
+    other false same graphic = same
+    other true same graphic = let f : is_ascii_control b ≡ true = ap is_ascii_control (eqb-true b c same) ∙ control in absurd cc
+
+split-text : (text rest : List ℕ) → list_any is_feed text ≡ false → slice_split is_feed (text ++ (10 ∷ rest)) ≡ text ∷ slice_split is_feed rest
+split-text [] rest e = refl
+split-text (b ∷ text) rest e = let h = or_parts (is_feed b) (list_any is_feed text) e in rw h.0 (ap (onto_first b) (split-text text rest h.1))
+
+byte-other : (text : List ℕ) (i : ℕ) → list_any (λ b. eqb b 13) text ≡ false → eqb (get_or text i 0) 13 ≡ false
+byte-other [] i e = refl
+byte-other (b ∷ text) zero e = (or_parts (eqb b 13) (list_any (λ b. eqb b 13) text) e).0
+byte-other (b ∷ text) (suc i) e = byte-other text i (or_parts (eqb b 13) (list_any (λ b. eqb b 13) text) e).1
+
+whole-line : (text : List ℕ) → list_any (λ b. eqb b 13) text ≡ false → strip_carriage_return text ≡ text
+whole-line text e = rw (byte-other text (length text - 1) e) refl
+
+pub first-line : (text rest : List ℕ) → list_any is_ascii_control text ≡ false → lines (text ++ (10 ∷ rest)) ≡ text ∷ lines rest
+first-line text rest e =
+    ap lines_of_parts (split-text text rest (plain-without 10 text refl e))
+    ∙ lines_of_parts-more text (slice_split is_feed rest) (let n = length-slice_split is_feed rest in omega (arith, n))
+    ∙ ap (λ (x : List ℕ). x ∷ lines rest) (whole-line text (plain-without 13 text refl e))
 
 -- ---- the numbers of lines increase
 

@@ -7,7 +7,6 @@ use Rattle.gp_grammar.specs.Limits as g
 use Rattle.std.specs.Str.{is_utf8, IsUtf8}
 use Rattle.std.proofs.lemmas.Str.{IsUtf8-from_is_utf8, is_utf8-from_IsUtf8}
 use Rattle.std.proofs.lemmas.Bool.{cases_Bool}
-use Rattle.gp_base.specs.declared.refusal.Refusal.{Refusal}
 use Rattle.gp_lexer.specs.Lexing.{Lexed, lexed}
 use Rattle.gp_grammar.specs.declared.limits.TheConstants.{MAX_OPEN}
 use Rattle.gp_grammar.specs.Syntax.{Lexemes, Bytes}
@@ -16,8 +15,7 @@ use Rattle.gp_grammar.specs.Limits.{Shape, depth, passed_limit}
 use Rattle.gp_grammar.specs.LineReading.{Fault, not_utf8, over, syntax, lexeme_column}
 use Rattle.gp_grammar.specs.Reading.{placed, read_lexed, read_text, within_shape}
 use Rattle.gp_grammar.specs.Parsing.{Parser, whole}
-use Rattle.gp_syntax.specs.declared.error.ReadStop.{ReadStop}
-use Rattle.gp_syntax.specs.declared.error.ReadStop.TheVariants.{Refused, NoMemory}
+use Rattle.gp_base.specs.declared.stop.Stop.{Stop}
 use Rattle.gp_syntax.specs.Refusals.{limit_of}
 use Rattle.gp_syntax.specs.ReadResults.{Returns, refusal_in}
 use Rattle.gp_syntax.specs.Tests.{shallow, tested_lexemes}
@@ -42,31 +40,12 @@ module _ {A : Type 0} (parser : Parser A) (shape : A → Shape) where
   read-tested : (bytes : Bytes) (l : Lexemes × List ℕ) → tested_lexemes bytes ≡ Ok l → read_text parser shape bytes ≡ place (length bytes + 1) l
   read-tested bytes l h = by-utf8 (length bytes + 1) (is_utf8 bytes) (lexed bytes) l h
 
-  -- the refusals of the tests are those of the text
-  deep-refused : (end : ℕ) (m : Lexemes × List ℕ) (deep : Bool) (r : Refusal) → refusal_in (cond {A = Result (Lexemes × List ℕ) Fault} deep (Err (over depth)) (Ok m)) ≡ Some r
-      → refusal_in (cond deep (Err (over depth)) (place end m)) ≡ Some r
-  deep-refused end m true r h = h
-  deep-refused end m false r h = absurd cc
-
-  lexed-refused : (end : ℕ) (x : Lexed) (r : Refusal) → refusal_in (shallow x) ≡ Some r → refusal_in (read_lexed parser shape end x) ≡ Some r
-  lexed-refused end (Err column) r h = h
-  lexed-refused end (Ok m) r h = deep-refused end m (is_too_deep MAX_OPEN m.0) r h
-
-  utf8-refused : (end : ℕ) (u : Bool) (x : Lexed) (r : Refusal) → refusal_in (cond u (shallow x) (Err not_utf8)) ≡ Some r → refusal_in (cond u (read_lexed parser shape end x) (Err not_utf8)) ≡ Some r
-  utf8-refused end true x r h = lexed-refused end x r h
-  utf8-refused end false x r h = h
-
-  pub stop-returns : {X : Type 0} (view : X → A) (bytes : Bytes) (stop : ReadStop) → Returns {X = Lexemes × List ℕ} (λ l. l) (Err stop) (tested_lexemes bytes)
-      → Returns view (Err stop) (read_text parser shape bytes)
-  stop-returns view bytes (Refused r) h = utf8-refused (length bytes + 1) (is_utf8 bytes) (lexed bytes) r h
-  stop-returns view bytes NoMemory h = tt
-
   pub read-parsed : (bytes : Bytes) (l : Lexemes × List ℕ) (x : A) → tested_lexemes bytes ≡ Ok l → whole parser l.0 ≡ Ok x
       → read_text parser shape bytes ≡ within_shape x (passed_limit (shape x))
   read-parsed bytes l x h e = read-tested bytes l h ∙ ap (placed shape l.0 l.1 (length bytes + 1)) e
 
   -- what the test of the limits gives is what reading gives
-  pub parsed-returns : {X : Type 0} (view : X → A) (bytes : Bytes) (l : Lexemes × List ℕ) (lexemes : Lexemes) (x : A) (r : Result X ReadStop) → tested_lexemes bytes ≡ Ok l
+  pub parsed-returns : {X : Type 0} (view : X → A) (bytes : Bytes) (l : Lexemes × List ℕ) (lexemes : Lexemes) (x : A) (r : Result X Stop) → tested_lexemes bytes ≡ Ok l
       → lexemes ≡ l.0 → whole parser lexemes ≡ Ok x → Returns view r (within_shape x (passed_limit (shape x))) → Returns view r (read_text parser shape bytes)
   parsed-returns view bytes l lexemes x r h same e returned =
       let P : Result A Fault → Type 0 = λ o. Returns view r o in

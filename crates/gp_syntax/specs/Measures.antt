@@ -42,7 +42,8 @@ rank limit.From = 1
 rank limit.Branches = 2
 rank limit.Values = 3
 rank limit.Nodes = 4
-rank _ = 5
+rank limit.Depth = 5
+rank _ = 6
 
 abbrev pub earlier : Option Limit → Option Limit → Option Limit
 earlier None second = second

@@ -1,14 +1,15 @@
 -- Machinery: parts of the parser of questions.
-use Rattle.std.specs.Prelude.{ℕ, true, false, List, map, Option, None, Ok, codes}
+use Rattle.std.specs.Prelude.{ℕ, List, map, Option, None, Ok, codes}
 use Rattle.gp_lexer.specs.declared.lexeme.Symbol.TheVariants as s
 use Rattle.gp_grammar.specs.Syntax as y
 use Rattle.gp_grammar.specs.Parsing.{Parser, ◌>>=◌}
-use Rattle.gp_grammar.specs.CommandParsing.{◌then◌, where_next, accept, expect_word, query, where_word}
-use Rattle.gp_grammar.specs.QuestionParsing.{ask, kept, number, second_side}
+use Rattle.gp_grammar.specs.CommandParsing.{◌then◌, where_next, accept, expect_word}
+use Rattle.gp_grammar.specs.QuestionParsing.{asked_of, number, second_side, side_subject, state, subject}
 use Rattle.gp_syntax.specs.declared.question_parser.Rules.{Rules}
 use Rattle.gp_syntax.specs.declared.question_parser.Pattern.{Pattern}
-use Rattle.gp_syntax.specs.declared.question_parser.Asked.{Asked}
-use Rattle.gp_syntax.specs.Views.{how_view, query_view, rule_view, point_view}
+use Rattle.gp_syntax.specs.declared.command.Query.{Query}
+use Rattle.gp_syntax.specs.declared.question.Subject.{Subject}
+use Rattle.gp_syntax.specs.Views.{query_view, rule_view, subject_view}
 
 abbrev pub rules_view : Rules → y.Rules
 rules_view rules = record { rules = map rule_view rules.rules; other = rules.other }
@@ -28,25 +29,21 @@ reenacted t = where_next s.Commit (accept (y.Point.commit t)) (expect_word (code
 abbrev pub ends_rules : List y.Rule → Parser y.Rules
 ends_rules found = s.Close then accept (record { rules = found; other = None })
 
--- behind EXPLAIN
-abbrev pub explained : Parser y.How
-explained = where_word (codes "provenance") (expect_word (codes "of") (accept (y.explain true))) (accept (y.explain false))
+-- behind what is asked for of a state
+abbrev pub state_of : y.How → Parser y.Subject
+state_of how ts = state ts >>= (λ state. Ok (y.of_state how state.0, state.1))
 
--- what is asked, as the arguments of a question
-abbrev pub asked_in : (y.How → y.Point → y.Query → y.Question) → Asked → y.Question
-asked_in question asked = question (how_view asked.how) (point_view asked.state) (query_view asked.query)
+-- a question, by what it is asked of and its query
+abbrev pub asked_in : (y.Subject → y.Query → y.Question) → Subject × Query → y.Question
+asked_in question asked = question (subject_view asked.0) (query_view asked.1)
 
--- behind a change
-abbrev pub of_ask : (y.How → y.Point → y.Query → y.Question) → Parser y.Question
-of_ask question = expect_word (codes "of") (ask question)
+-- behind changes
+abbrev pub of_asked : (y.Subject → y.Query → y.Question) → Parser y.Question
+of_asked question = expect_word (codes "of") (asked_of question subject)
 
--- behind SAW and its numbers
-abbrev pub saw_query : ℕ → ℕ → Parser y.Question
-saw_query t k ts = query ts >>= (λ query. Ok (y.saw t k query.0, query.1))
-
--- behind the change of a side
-abbrev pub changed_kept : y.LogChange → Parser y.Side
-changed_kept change = expect_word (codes "of") (λ rest. kept rest >>= (λ kept. Ok (y.changed change kept.0, kept.1)))
+-- behind the changes of a side
+abbrev pub changed_subject : List y.LogChange → Parser y.Side
+changed_subject changes = expect_word (codes "of") (λ rest. side_subject rest >>= (λ subject. Ok (y.changed changes subject.0, subject.1)))
 
 -- behind the first side
 abbrev pub to_second : y.Side → Parser y.Question

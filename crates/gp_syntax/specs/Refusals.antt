@@ -13,6 +13,7 @@ limit_of g.branches = limit.Branches
 limit_of g.values = limit.Values
 limit_of g.node_count = limit.Nodes
 limit_of g.depth = limit.Depth
+limit_of g.change_count = limit.Changes
 
 abbrev pub refusal_of_fault : Fault → Refusal
 refusal_of_fault too_long = E16

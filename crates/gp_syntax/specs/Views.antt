@@ -1,5 +1,5 @@
 -- Of the contracts of `read_command`, `read_line` and `read_question`: the abstract syntax of the parsed values, without the pointers in their boxes.
-use Rattle.std.specs.Prelude.{map, Option}
+use Rattle.std.specs.Prelude.{List, map, Option}
 use Rattle.std.specs.Option.{option_map}
 use Rattle.gp_grammar.specs.Syntax as y
 use Rattle.gp_syntax.specs.declared.term.Term.{Term, Null, Int, Text, Col, Binary', Neg', Not', IsNull', IsTrue', Case'}
@@ -19,7 +19,8 @@ use Rattle.gp_syntax.specs.declared.question.How.{How}
 use Rattle.gp_syntax.specs.declared.question.How.TheVariants as h
 use Rattle.gp_syntax.specs.declared.question.LogChange.{LogChange}
 use Rattle.gp_syntax.specs.declared.question.LogChange.TheVariants as l
-use Rattle.gp_syntax.specs.declared.question.Kept.{Kept}
+use Rattle.gp_syntax.specs.declared.question.Subject.{Subject}
+use Rattle.gp_syntax.specs.declared.question.Subject.TheVariants as u
 use Rattle.gp_syntax.specs.declared.question.Side.{Side}
 use Rattle.gp_syntax.specs.declared.question.Side.TheVariants as side
 use Rattle.gp_syntax.specs.declared.question.Question.{Question}
@@ -87,25 +88,34 @@ how_view (h.Without rules) = y.without (map rule_view rules)
 
 abbrev pub change_view : LogChange → y.LogChange
 change_view (l.Drop t k) = y.drop t k
-change_view (l.Replace t k command) = y.replace t k (command_view command)
-change_view (l.Add t command) = y.add t (command_view command)
+change_view (l.DropAll t) = y.drop_all t
+change_view (l.Replace t k command) = y.replace t k (command_view command.value)
+change_view (l.Add t command) = y.add t (command_view command.value)
 
-abbrev pub kept_view : Kept → y.Kept
-kept_view kept = record { how = how_view kept.how; state = point_view kept.state }
+abbrev pub changes_view : List LogChange → List y.LogChange
+changes_view = map change_view
+
+abbrev pub subject_view : Subject → y.Subject
+subject_view (u.State how state) = y.of_state (how_view how) (point_view state)
+subject_view (u.Saw t k) = y.saw t k
 
 abbrev pub side_view : Side → y.Side
-side_view (side.AsIs kept) = y.as_is (kept_view kept)
-side_view (side.Changed change kept) = y.changed (change_view change) (kept_view kept)
+side_view (side.AsIs subject) = y.as_is (subject_view subject)
+side_view (side.Changed changes subject) = y.changed (changes_view changes) (subject_view subject)
 
 abbrev pub question_view : Question → y.Question
 question_view q.Transactions = y.transactions
 question_view (q.Log t) = y.log t
 question_view (q.Versions table) = y.versions table
-question_view (q.Saw t k query) = y.saw t k (query_view query)
 question_view (q.Changes t k) = y.changes t k
 question_view (q.CommitChanges t) = y.commit_changes t
+question_view (q.Conflicts t) = y.conflicts t
+question_view (q.History table cond) = y.history table (condition_view cond)
+question_view (q.When query) = y.when (query_view query)
+question_view q.Serial = y.serial
 question_view q.Check = y.check
 question_view (q.Diff first second query) = y.diff (side_view first) (side_view second) (query_view query)
-question_view (q.Causes kept query) = y.causes (kept_view kept) (query_view query)
-question_view (q.Ask how state query) = y.ask (how_view how) (point_view state) (query_view query)
-question_view (q.WhatIf change how state query) = y.what_if (change_view change) (how_view how) (point_view state) (query_view query)
+question_view (q.Causes subject query) = y.causes (subject_view subject) (query_view query)
+question_view (q.Ask subject query) = y.ask (subject_view subject) (query_view query)
+question_view (q.WhatIf changes subject query) = y.what_if (changes_view changes) (subject_view subject) (query_view query)
+question_view (q.ExplainSaw t k query) = y.explain_saw t k (query_view query)

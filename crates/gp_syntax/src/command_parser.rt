@@ -301,7 +301,10 @@ fn select_items(alloc: Global, lexemes: &[Lexeme]) -> Result<(Items, &[Lexeme]),
 
 /// A WHERE, if it follows.
 #[tactic(auto, unfolding(gp_grammar::specs::CommandParsing::condition))]
-fn condition(alloc: Global, lexemes: &[Lexeme]) -> Result<(Option<Term>, &[Lexeme]), ParseStop<'_>>
+pub(crate) fn condition(
+    alloc: Global,
+    lexemes: &[Lexeme],
+) -> Result<(Option<Term>, &[Lexeme]), ParseStop<'_>>
     ensures { Parses condition_view result (spec.condition lexemes.now) }
 {
     match strip(lexemes, Symbol::Where) {

@@ -1,10 +1,9 @@
-//! Why a line, a text or a part of it is not read.
+//! Why a part of a line is not read.
 
 ghost use Rattle.std.specs.Prelude.{◌≡◌};
 ghost use Rattle.gp_syntax.specs.declared.error.ParseStop.TheVariants.{NoMemory as OutOfMemory};
-ghost use Rattle.gp_syntax.specs.declared.error.ReadStop.TheVariants.{NoMemory as ReadOutOfMemory};
 
-use gp_base::{NoMemory, Refusal};
+use gp_base::NoMemory;
 use gp_lexer::Lexeme;
 use std::alloc::{AllocError, AllocFailed};
 
@@ -39,22 +38,5 @@ impl<'a> From<AllocError> for ParseStop<'a> {
 
     fn from(_error: AllocError) -> ParseStop<'a> {
         ParseStop::NoMemory
-    }
-}
-
-/// Why a line or a text is not read.
-#[derive(Drop)]
-pub enum ReadStop {
-    /// It is refused, for this reason.
-    Refused(Refusal),
-    /// Memory ran out. This says nothing of the line.
-    NoMemory,
-}
-
-impl From<NoMemory> for ReadStop {
-    ghost from_gives = { λ _ stop. stop ≡ ReadOutOfMemory };
-
-    fn from(_error: NoMemory) -> ReadStop {
-        ReadStop::NoMemory
     }
 }

@@ -28,14 +28,14 @@ mod question;
 mod question_parser;
 mod read;
 mod side_parser;
+mod subject_parser;
 mod term;
 mod term_parser;
 
 pub use canonical::write_command;
 pub use command::{Block, Command, Item, Items, Query, ScriptLine, SetTerm};
-pub use error::ReadStop;
 pub use gp_grammar::{MAX_LINE_LENGTH, Op, SemiringName, TokenKind};
 pub use line::{Line, LineIter, lines};
-pub use question::{How, Kept, LogChange, Point, Question, Rule, Side};
+pub use question::{How, LogChange, Point, Question, Rule, Side, Subject};
 pub use read::{read_command, read_line, read_question};
 pub use term::Term;

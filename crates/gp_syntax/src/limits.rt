@@ -4,17 +4,17 @@ ghost use Rattle.std.specs.Prelude.{◌≡◌, ◌-◌, ◌^◌, ◌++◌, lengt
 ghost use Rattle.std.specs.List.{list_any};
 ghost use Rattle.std.specs.Option.{option_map};
 ghost use Rattle.gp_grammar.specs.Depth as spec;
-ghost use Rattle.gp_grammar.specs.Limits.{nodes, levels, select_terms, terms_of_condition, terms_of_query, query_shape, command_shape, change_shape, side_shape, both, question_shape, passed_limit, some_above};
+ghost use Rattle.gp_grammar.specs.Limits.{nodes, levels, select_terms, terms_of_condition, terms_of_query, query_shape, command_shape, change_shape, both, shape_of_count, commands_shape, changes_shape, side_shape, question_shape, passed_limit, some_above};
 ghost use Rattle.gp_syntax.specs.Refusals.{limit_of};
 ghost use Rattle.gp_syntax.specs.Measures.{is_above, are_above, earlier, rank, set_term_of, term_limit, terms_limit, terms_of_block, terms_of_sets};
-ghost use Rattle.gp_syntax.specs.Views.{term_view, set_view, items_view, block_view, query_view, condition_view, command_view, change_view, side_view, question_view};
+ghost use Rattle.gp_syntax.specs.Views.{term_view, set_view, items_view, block_view, query_view, condition_view, command_view, change_view, changes_view, side_view, question_view};
 
 use crate::command::{Block, Command, Items, Query, SetTerm};
 use crate::question::{LogChange, Question, Side};
 use crate::term::Term;
 use gp_base::Limit;
 use gp_grammar::{
-    MAX_BRANCHES, MAX_COLUMNS, MAX_FROM, MAX_LEVELS, MAX_NODES, MAX_OPEN, MAX_VALUES,
+    MAX_BRANCHES, MAX_CHANGES, MAX_COLUMNS, MAX_FROM, MAX_LEVELS, MAX_NODES, MAX_OPEN, MAX_VALUES,
 };
 use gp_lexer::{Lexeme, Symbol};
 
@@ -290,9 +290,9 @@ fn update_limit(sets: &[SetTerm], cond: &Option<Term>) -> Option<Limit>
     term_limit(nodes, levels)
 }
 
-/// The first limit that a DELETE passes.
+/// The first limit that a WHERE passes.
 #[tactic(auto, using(crate::proofs::LimitLemmas::updates))]
-fn delete_limit(cond: &Option<Term>) -> Option<Limit>
+fn condition_limit(cond: &Option<Term>) -> Option<Limit>
     ensures { result ≡ terms_limit (terms_of_condition (condition_view cond.now)) }
 {
     term_limit(
@@ -325,7 +325,7 @@ pub(crate) fn command_limit(command: &Command) -> Option<Limit>
         }
         Command::InsertSelect { query, .. } => query_limit(query),
         Command::Update { sets, cond, .. } => update_limit(sets.as_slice(), cond),
-        Command::Delete { cond, .. } => delete_limit(cond),
+        Command::Delete { cond, .. } => condition_limit(cond),
         Command::Select { query } => query_limit(query),
     }
 }
@@ -336,8 +336,9 @@ fn change_limit(change: &LogChange) -> Option<Limit>
 {
     match change {
         LogChange::Drop { .. } => None,
-        LogChange::Replace { command, .. } => command_limit(command),
-        LogChange::Add { command, .. } => command_limit(command),
+        LogChange::DropAll { .. } => None,
+        LogChange::Replace { command, .. } => command_limit(command.as_ref()),
+        LogChange::Add { command, .. } => command_limit(command.as_ref()),
     }
 }
 
@@ -351,7 +352,8 @@ fn rank(limit: Limit) -> usize
         Limit::Branches => 2,
         Limit::Values => 3,
         Limit::Nodes => 4,
-        _ => 5,
+        Limit::Depth => 5,
+        _ => 6,
     }
 }
 
@@ -368,23 +370,54 @@ fn earlier(first: Option<Limit>, second: Option<Limit>) -> Option<Limit>
     }
 }
 
-/// The first limit that a change and the query behind it pass: each limit is tested over both.
-fn what_if_limit(change: &LogChange, query: &Query) -> Option<Limit>
-    ensures { result ≡ option_map limit_of (passed_limit
-        (both (change_shape (change_view change.now)) (query_shape (query_view query.now)))) }
+/// The limit that so many changes pass.
+fn count_limit(count: usize) -> Option<Limit>
+    ensures { result ≡ option_map limit_of (passed_limit (shape_of_count count)) }
 {
-    let first = change_limit(change);
+    if count > MAX_CHANGES {
+        Some(Limit::Changes)
+    } else {
+        None
+    }
+}
+
+/// The first limit that the commands of changes pass.
+fn commands_limit(changes: &[LogChange]) -> Option<Limit>
+    ensures { result ≡ option_map limit_of (passed_limit (commands_shape (changes_view changes.now))) }
+{
+    let mut found = None;
+    for change in changes {
+        found = earlier(found, change_limit(change));
+    }
+    found
+}
+
+/// The first limit that the changes of a WHATIF pass.
+fn changes_limit(changes: &[LogChange]) -> Option<Limit>
+    ensures { result ≡ option_map limit_of (passed_limit (changes_shape (changes_view changes.now))) }
+{
+    let count = count_limit(changes.len());
+    let commands = commands_limit(changes);
+    earlier(count, commands)
+}
+
+/// The first limit that changes and the query behind them pass: each limit is tested over all.
+fn what_if_limit(changes: &[LogChange], query: &Query) -> Option<Limit>
+    ensures { result ≡ option_map limit_of (passed_limit
+        (both (changes_shape (changes_view changes.now)) (query_shape (query_view query.now)))) }
+{
+    let first = changes_limit(changes);
     let second = query_limit(query);
     earlier(first, second)
 }
 
-/// The first limit that the change of a side passes.
+/// The first limit that the changes of a side pass.
 fn side_limit(side: &Side) -> Option<Limit>
     ensures { result ≡ option_map limit_of (passed_limit (side_shape (side_view side.now))) }
 {
     match side {
         Side::AsIs { .. } => None,
-        Side::Changed { change, .. } => change_limit(change),
+        Side::Changed { changes, .. } => changes_limit(changes.as_slice()),
     }
 }
 
@@ -417,9 +450,12 @@ pub(crate) fn question_limit(question: &Question) -> Option<Limit>
         Question::Transactions => None,
         Question::Log { .. } => None,
         Question::Versions { .. } => None,
-        Question::Saw { query, .. } => query_limit(query),
         Question::Changes { .. } => None,
         Question::CommitChanges { .. } => None,
+        Question::Conflicts { .. } => None,
+        Question::History { cond, .. } => condition_limit(cond),
+        Question::When { query } => query_limit(query),
+        Question::Serial => None,
         Question::Check => None,
         Question::Diff {
             first,
@@ -428,6 +464,7 @@ pub(crate) fn question_limit(question: &Question) -> Option<Limit>
         } => diff_limit(first, second, query),
         Question::Causes { query, .. } => query_limit(query),
         Question::Ask { query, .. } => query_limit(query),
-        Question::WhatIf { change, query, .. } => what_if_limit(change, query),
+        Question::WhatIf { changes, query, .. } => what_if_limit(changes.as_slice(), query),
+        Question::ExplainSaw { query, .. } => query_limit(query),
     }
 }

@@ -1,8 +1,10 @@
 //! Questions about a history.
 
 use crate::command::{Command, Query};
+use crate::term::Term;
 use gp_base::{Name, Sequence};
 use gp_grammar::{SemiringName, TokenKind};
+use std::rc::Rc;
 
 /// The state that a question asks about.
 #[derive(Clone, Copy)]
@@ -70,6 +72,25 @@ pub enum How {
     },
 }
 
+/// What a query is asked of.
+#[derive(Drop)]
+pub enum Subject {
+    /// A state.
+    State {
+        /// What is asked for.
+        how: How,
+        /// The state.
+        state: Point,
+    },
+    /// `SAW`: what a transaction saw after its first statements, whatever became of it.
+    Saw {
+        /// The transaction.
+        t: u64,
+        /// How many statements.
+        k: u64,
+    },
+}
+
 /// A change of one transaction in the log. A command in it is an INSERT, an UPDATE, a DELETE or a SELECT.
 #[derive(Drop)]
 pub enum LogChange {
@@ -80,6 +101,11 @@ pub enum LogChange {
         /// The statement, from 1.
         k: u64,
     },
+    /// `DROP` without the number of a statement: without all of its statements.
+    DropAll {
+        /// The transaction.
+        t: u64,
+    },
     /// `REPLACE`: with another command in the place of one of its statements.
     Replace {
         /// The transaction.
@@ -87,40 +113,31 @@ pub enum LogChange {
         /// The statement, from 1.
         k: u64,
         /// The command.
-        command: Command,
+        command: Rc<Command>,
     },
     /// `ADD`: with one more statement, after its last one.
     Add {
         /// The transaction.
         t: u64,
         /// The command of the statement.
-        command: Command,
+        command: Rc<Command>,
     },
 }
 
-/// A state as it is, or without the rows of some tokens.
-#[derive(Drop)]
-pub struct Kept {
-    /// What is asked for: [`How::Rows`] or [`How::Without`].
-    pub how: How,
-    /// The state.
-    pub state: Point,
-}
-
-/// One of the two sides of a difference.
+/// One of the two sides of a difference: rows of a state, rows that are left without some tokens, or what a transaction saw.
 #[derive(Drop)]
 pub enum Side {
-    /// A state of the history.
+    /// Of the history.
     AsIs {
         /// The state.
-        kept: Kept,
+        subject: Subject,
     },
-    /// `WHATIF`: a state that there would be with a change.
+    /// `WHATIF`: of the history that there would be with some changes.
     Changed {
-        /// The change.
-        change: LogChange,
+        /// The changes, made one after another. There is at least one.
+        changes: Sequence<LogChange>,
         /// The state.
-        kept: Kept,
+        subject: Subject,
     },
 }
 
@@ -139,15 +156,6 @@ pub enum Question {
         /// The table.
         table: Name,
     },
-    /// `SAW`: a query over what a transaction saw after its first statements.
-    Saw {
-        /// The transaction.
-        t: u64,
-        /// How many statements.
-        k: u64,
-        /// The query.
-        query: Query,
-    },
     /// `CHANGES`: the rows that a statement changed.
     Changes {
         /// The transaction.
@@ -160,6 +168,25 @@ pub enum Question {
         /// The transaction.
         t: u64,
     },
+    /// `CONFLICTS`: the rows on which a transaction met another one.
+    Conflicts {
+        /// The transaction.
+        t: u64,
+    },
+    /// `HISTORY OF`: what changed the rows of a table.
+    History {
+        /// The table.
+        table: Name,
+        /// The condition on a row, once in its life, if WHERE gives one.
+        cond: Option<Term>,
+    },
+    /// `WHEN`: the versions in which each row of a query is there.
+    When {
+        /// The query.
+        query: Query,
+    },
+    /// `SERIAL`: whether the transactions could have run one after another.
+    Serial,
     /// `CHECK`: whether the dump is that of a history.
     Check,
     /// `DIFF`: how the rows of a query differ from one side to the other.
@@ -173,28 +200,33 @@ pub enum Question {
     },
     /// `CAUSES OF`: the statements without which the rows of a query would be others.
     Causes {
-        /// The state.
-        kept: Kept,
+        /// Rows of a state, or those that are left without some tokens.
+        subject: Subject,
         /// The query.
         query: Query,
     },
-    /// A query over a state.
+    /// A query over a state, or over what a transaction saw.
     Ask {
-        /// What it asks for.
-        how: How,
-        /// The state.
-        state: Point,
+        /// What it is asked of.
+        subject: Subject,
         /// The query.
         query: Query,
     },
-    /// `WHATIF`: a query over a state that there would be with a change.
+    /// `WHATIF`: a query over the history that there would be with some changes.
     WhatIf {
-        /// The change.
-        change: LogChange,
-        /// What it asks for.
-        how: How,
-        /// The state.
-        state: Point,
+        /// The changes, made one after another. There is at least one.
+        changes: Sequence<LogChange>,
+        /// What it is asked of.
+        subject: Subject,
+        /// The query.
+        query: Query,
+    },
+    /// `EXPLAIN SAW`: the query that computes what a transaction saw after its first statements.
+    ExplainSaw {
+        /// The transaction.
+        t: u64,
+        /// How many statements.
+        k: u64,
         /// The query.
         query: Query,
     },

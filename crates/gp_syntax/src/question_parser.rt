@@ -2,26 +2,27 @@
 
 ghost use Rattle.std.specs.Prelude.{◌≡◌, [], IfOk, List, map};
 ghost use Rattle.std.specs.Option.{option_map};
-ghost use Rattle.gp_grammar.specs.CommandParsing.{query, separated};
+ghost use Rattle.gp_grammar.specs.CommandParsing.{separated};
 ghost use Rattle.gp_grammar.specs.Parsing.{whole};
 ghost use Rattle.gp_grammar.specs.QuestionParsing as spec;
 ghost use Rattle.gp_grammar.specs.Syntax as y;
 ghost use Rattle.gp_grammar.specs.Syntax.{rule_of};
 ghost use Rattle.gp_grammar.proofs.QuestionCompleteness.{shrinks-left_out};
 ghost use Rattle.gp_syntax.specs.Parses.{Parses, ParsesAll, Extends, pushed};
-ghost use Rattle.gp_syntax.specs.QuestionParts.{asked_in, pattern_view, rules_view, rules_of, ends_rules, explained, of_ask, reenacted, saw_query};
-ghost use Rattle.gp_syntax.specs.Views.{how_view, query_view, question_view, rule_view, point_view};
+ghost use Rattle.gp_syntax.specs.QuestionParts.{asked_in, pattern_view, rules_view, rules_of, ends_rules, of_asked, reenacted};
+ghost use Rattle.gp_syntax.specs.Views.{how_view, question_view, rule_view, point_view};
 
-use crate::change_parser::change;
+use crate::change_parser::changes_of;
 use crate::command::Query;
-use crate::command_parser::query;
+use crate::command_parser::{condition, query};
 use crate::error::ParseStop;
 use crate::lexeme_parser::{expect, expect_word, identifier, strip, strip_word};
 use crate::list_parser::{ParsedList, separated};
 use crate::names::pattern_name;
-use crate::parsed::{Parsed, ended};
-use crate::question::{How, Point, Question, Rule};
+use crate::parsed::{Parsed, ended, with_name};
+use crate::question::{How, Point, Question, Rule, Subject};
 use crate::side_parser::{caused, diff};
+use crate::subject_parser::{explained_state, saw_numbers, subject, with_query};
 use gp_base::Sequence;
 use gp_grammar::{MAX_PATTERN_NUMBER, SemiringName, TokenKind};
 use gp_lexer::{Lexeme, Symbol};
@@ -34,17 +35,6 @@ pub(crate) struct Rules {
     pub rules: Sequence<Rule>,
     /// The number behind ELSE.
     pub other: Option<u64>,
-}
-
-/// What a question asks, of which state and by which query.
-#[derive(Drop)]
-pub(crate) struct Asked {
-    /// What it asks for.
-    pub how: How,
-    /// The state.
-    pub state: Point,
-    /// The query.
-    pub query: Query,
 }
 
 /// A pattern of provenance tokens.
@@ -387,8 +377,8 @@ pub(crate) fn without(alloc: Global, lexemes: &[Lexeme]) -> Result<(How, &[Lexem
 }
 
 /// What an EXPLAIN asks for, behind its first word.
-fn explained(lexemes: &[Lexeme]) -> Result<(How, &[Lexeme]), ParseStop<'_>>
-    ensures { Parses how_view result (explained lexemes.now) }
+pub(crate) fn explained(lexemes: &[Lexeme]) -> Result<(How, &[Lexeme]), ParseStop<'_>>
+    ensures { Parses how_view result (spec.explained lexemes.now) }
 {
     match strip_word(lexemes, b"provenance") {
         Some(rest) => {
@@ -401,7 +391,7 @@ fn explained(lexemes: &[Lexeme]) -> Result<(How, &[Lexeme]), ParseStop<'_>>
 
 /// What a question asks for.
 #[tactic(auto, unfolding(gp_grammar::specs::QuestionParsing::how))]
-fn how(alloc: Global, lexemes: &[Lexeme]) -> Result<(How, &[Lexeme]), ParseStop<'_>>
+pub(crate) fn how(alloc: Global, lexemes: &[Lexeme]) -> Result<(How, &[Lexeme]), ParseStop<'_>>
     ensures { Parses how_view result (spec.how lexemes.now) }
 {
     if let Some(rest) = strip_word(lexemes, b"explain") {
@@ -420,65 +410,38 @@ fn how(alloc: Global, lexemes: &[Lexeme]) -> Result<(How, &[Lexeme]), ParseStop<
     }
 }
 
-/// The value and a state.
-pub(crate) fn with_state<T: Drop>(
-    value: T,
-    lexemes: &[Lexeme],
-) -> Result<((T, Point), &[Lexeme]), ParseStop<'_>>
-    ensures value { IfOk result (λ r. r.0.0 ≡ value) }
-    ensures state { Parses (λ r. point_view r.1) result (spec.state lexemes.now) }
+/// What a query is asked of, and the query.
+#[tactic(auto, unfolding(gp_grammar::specs::QuestionParsing::asked_of))]
+fn asked(alloc: Global, lexemes: &[Lexeme]) -> Result<((Subject, Query), &[Lexeme]), ParseStop<'_>>
+    ensures { (question : y.Subject → y.Query → y.Question)
+        → Parses (asked_in question) result (spec.asked_of question spec.subject lexemes.now) }
 {
-    let (state, rest) = state(lexemes)?;
-    Ok(((value, state), rest))
+    let (subject, rest) = subject(alloc, lexemes)?;
+    let ((subject, query), rest) = with_query(alloc, subject, rest)?;
+    Ok(((subject, query), rest))
 }
 
-/// The value and a query.
-pub(crate) fn with_query<T: Drop>(
-    alloc: Global,
-    value: T,
-    lexemes: &[Lexeme],
-) -> Result<((T, Query), &[Lexeme]), ParseStop<'_>>
-    ensures value { IfOk result (λ r. r.0.0 ≡ value) }
-    ensures query { Parses (λ r. query_view r.1) result (query lexemes.now) }
-{
-    let (query, rest) = query(alloc, lexemes)?;
-    Ok(((value, query), rest))
-}
-
-/// What is asked, of which state and by which query.
-#[tactic(auto, unfolding(gp_grammar::specs::QuestionParsing::ask))]
-fn ask_parts(alloc: Global, lexemes: &[Lexeme]) -> Result<(Asked, &[Lexeme]), ParseStop<'_>>
-    ensures { (question : y.How → y.Point → y.Query → y.Question)
-        → Parses (asked_in question) result (spec.ask question lexemes.now) }
-{
-    let (how, rest) = how(alloc, lexemes)?;
-    let ((how, state), rest) = with_state(how, rest)?;
-    let (((how, state), query), rest) = with_query(alloc, (how, state), rest)?;
-    Ok((Asked { how, state, query }, rest))
-}
-
-/// A question that asks a query.
-fn ask(alloc: Global, lexemes: &[Lexeme]) -> Result<(Question, &[Lexeme]), ParseStop<'_>>
-    ensures { Parses question_view result (spec.ask y.Question.ask lexemes.now) }
-{
-    let (asked, rest) = ask_parts(alloc, lexemes)?;
-    let Asked { how, state, query } = asked;
-    Ok((Question::Ask { how, state, query }, rest))
-}
-
-/// The value, and what is asked behind OF.
+/// The value, and what a query is asked of, with the query, behind OF.
 fn with_asked<T: Drop>(
     alloc: Global,
     value: T,
     lexemes: &[Lexeme],
-) -> Result<((T, Asked), &[Lexeme]), ParseStop<'_>>
+) -> Result<((T, (Subject, Query)), &[Lexeme]), ParseStop<'_>>
     ensures value { IfOk result (λ r. r.0.0 ≡ value) }
-    ensures asked { (question : y.How → y.Point → y.Query → y.Question)
-        → Parses (λ r. asked_in question r.1) result (of_ask question lexemes.now) }
+    ensures asked { (question : y.Subject → y.Query → y.Question)
+        → Parses (λ r. asked_in question r.1) result (of_asked question lexemes.now) }
 {
     let rest = expect_word(lexemes, b"of")?;
-    let (asked, rest) = ask_parts(alloc, rest)?;
+    let (asked, rest) = asked(alloc, rest)?;
     Ok(((value, asked), rest))
+}
+
+/// A question that asks a query.
+fn ask(alloc: Global, lexemes: &[Lexeme]) -> Result<(Question, &[Lexeme]), ParseStop<'_>>
+    ensures { Parses question_view result (spec.asked_of y.Question.ask spec.subject lexemes.now) }
+{
+    let ((subject, query), rest) = asked(alloc, lexemes)?;
+    Ok((Question::Ask { subject, query }, rest))
 }
 
 /// A WHATIF, behind its first word.
@@ -486,18 +449,53 @@ fn with_asked<T: Drop>(
 fn what_if(alloc: Global, lexemes: &[Lexeme]) -> Result<(Question, &[Lexeme]), ParseStop<'_>>
     ensures { Parses question_view result (spec.what_if lexemes.now) }
 {
-    let (change, rest) = change(alloc, lexemes)?;
-    let ((change, asked), rest) = with_asked(alloc, change, rest)?;
-    let Asked { how, state, query } = asked;
+    let (changes, rest) = changes_of(alloc, lexemes)?;
+    let ((changes, (subject, query)), rest) = with_asked(alloc, changes, rest)?;
     Ok((
         Question::WhatIf {
-            change,
-            how,
-            state,
+            changes,
+            subject,
             query,
         },
         rest,
     ))
+}
+
+/// A state and its query, behind EXPLAIN.
+#[tactic(auto, unfolding(gp_grammar::specs::QuestionParsing::asked_of))]
+fn explained_ask(alloc: Global, lexemes: &[Lexeme]) -> Result<(Question, &[Lexeme]), ParseStop<'_>>
+    ensures { Parses question_view result
+        (spec.asked_of y.Question.ask (spec.of_state spec.explained) lexemes.now) }
+{
+    let (subject, rest) = explained_state(lexemes)?;
+    let ((subject, query), rest) = with_query(alloc, subject, rest)?;
+    Ok((Question::Ask { subject, query }, rest))
+}
+
+/// What a transaction saw and its query, behind EXPLAIN SAW.
+#[tactic(auto, unfolding(gp_grammar::specs::QuestionParsing::explained_saw))]
+fn explained_saw(alloc: Global, lexemes: &[Lexeme]) -> Result<(Question, &[Lexeme]), ParseStop<'_>>
+    ensures { Parses question_view result (spec.explained_saw lexemes.now) }
+{
+    let ((t, k), rest) = saw_numbers(lexemes)?;
+    let (query, rest) = query(alloc, rest)?;
+    Ok((Question::ExplainSaw { t, k, query }, rest))
+}
+
+/// A question that asks a query, of the history as it is.
+fn asking_question(
+    alloc: Global,
+    lexemes: &[Lexeme],
+) -> Result<(Question, &[Lexeme]), ParseStop<'_>>
+    ensures { Parses question_view result (spec.from_explain lexemes.now) }
+{
+    match strip_word(lexemes, b"explain") {
+        Some(rest) => match strip_word(rest, b"saw") {
+            Some(rest) => explained_saw(alloc, rest),
+            None => explained_ask(alloc, rest),
+        },
+        None => ask(alloc, lexemes),
+    }
 }
 
 /// A VERSIONS, behind its first word.
@@ -508,30 +506,6 @@ fn versions(lexemes: &[Lexeme]) -> Result<(Question, &[Lexeme]), ParseStop<'_>>
     let (table, rest) = identifier(rest)?;
     let table = table.clone()?;
     Ok((Question::Versions { table }, rest))
-}
-
-/// The query of a SAW, behind the number of statements.
-fn saw_query(
-    alloc: Global,
-    t: u64,
-    k: u64,
-    lexemes: &[Lexeme],
-) -> Result<(Question, &[Lexeme]), ParseStop<'_>>
-    ensures { Parses question_view result (saw_query t k lexemes.now) }
-{
-    let (query, rest) = query(alloc, lexemes)?;
-    Ok((Question::Saw { t, k, query }, rest))
-}
-
-/// A SAW, behind its first word.
-#[tactic(auto, unfolding(gp_grammar::specs::QuestionParsing::saw))]
-fn saw(alloc: Global, lexemes: &[Lexeme]) -> Result<(Question, &[Lexeme]), ParseStop<'_>>
-    ensures { Parses question_view result (spec.saw lexemes.now) }
-{
-    let (t, rest) = number(lexemes)?;
-    let rest = expect_word(rest, b"after")?;
-    let (k, rest) = number(rest)?;
-    saw_query(alloc, t, k, rest)
 }
 
 /// A CHANGES, behind its first word.
@@ -549,7 +523,27 @@ fn changes(lexemes: &[Lexeme]) -> Result<(Question, &[Lexeme]), ParseStop<'_>>
     }
 }
 
-/// A question that is none of those about transactions.
+/// A HISTORY, behind OF.
+#[tactic(auto, unfolding(gp_grammar::specs::QuestionParsing::history))]
+fn history(alloc: Global, lexemes: &[Lexeme]) -> Result<(Question, &[Lexeme]), ParseStop<'_>>
+    ensures { Parses question_view result (spec.history lexemes.now) }
+{
+    let (name, rest) = identifier(lexemes)?;
+    let (cond, rest) = condition(alloc, rest)?;
+    let (table, cond) = with_name(name, cond)?;
+    Ok((Question::History { table, cond }, rest))
+}
+
+/// A WHEN, behind its first word.
+#[tactic(auto, unfolding(gp_grammar::specs::QuestionParsing::when))]
+fn when_there(alloc: Global, lexemes: &[Lexeme]) -> Result<(Question, &[Lexeme]), ParseStop<'_>>
+    ensures { Parses question_view result (spec.when lexemes.now) }
+{
+    let (query, rest) = query(alloc, lexemes)?;
+    Ok((Question::When { query }, rest))
+}
+
+/// A question about a history as a whole, about causes and differences, or one that asks a query.
 fn state_question(alloc: Global, lexemes: &[Lexeme]) -> Result<(Question, &[Lexeme]), ParseStop<'_>>
     ensures { Parses question_view result (spec.from_check lexemes.now) }
 {
@@ -565,7 +559,24 @@ fn state_question(alloc: Global, lexemes: &[Lexeme]) -> Result<(Question, &[Lexe
     }
     match strip_word(lexemes, b"whatif") {
         Some(rest) => what_if(alloc, rest),
-        None => ask(alloc, lexemes),
+        None => asking_question(alloc, lexemes),
+    }
+}
+
+/// A question about the lives of rows, or one behind none of its words.
+fn life_question(alloc: Global, lexemes: &[Lexeme]) -> Result<(Question, &[Lexeme]), ParseStop<'_>>
+    ensures { Parses question_view result (spec.from_history lexemes.now) }
+{
+    if let Some(rest) = strip_word(lexemes, b"history") {
+        let rest = expect_word(rest, b"of")?;
+        return history(alloc, rest);
+    }
+    if let Some(rest) = strip(lexemes, Symbol::When) {
+        return when_there(alloc, rest);
+    }
+    match strip_word(lexemes, b"serial") {
+        Some(rest) => Ok((Question::Serial, rest)),
+        None => state_question(alloc, lexemes),
     }
 }
 
@@ -576,12 +587,15 @@ fn later_question(alloc: Global, lexemes: &[Lexeme]) -> Result<(Question, &[Lexe
     if let Some(rest) = strip_word(lexemes, b"transactions") {
         return Ok((Question::Transactions, rest));
     }
-    if let Some(rest) = strip_word(lexemes, b"saw") {
-        return saw(alloc, rest);
+    if let Some(rest) = strip_word(lexemes, b"changes") {
+        return changes(rest);
     }
-    match strip_word(lexemes, b"changes") {
-        Some(rest) => changes(rest),
-        None => state_question(alloc, lexemes),
+    match strip_word(lexemes, b"conflicts") {
+        Some(rest) => {
+            let (t, rest) = number(rest)?;
+            Ok((Question::Conflicts { t }, rest))
+        }
+        None => life_question(alloc, lexemes),
     }
 }
 

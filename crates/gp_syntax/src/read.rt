@@ -20,11 +20,11 @@ ghost use Rattle.gp_syntax.specs.Views.{command_view, line_view, question_view};
 
 use crate::command::{Command, ScriptLine};
 use crate::command_parser::{script_line, whole_command};
-use crate::error::{ParseStop, ReadStop};
+use crate::error::ParseStop;
 use crate::limits::{command_limit, is_too_deep, question_limit};
 use crate::question::Question;
 use crate::question_parser::whole_question;
-use gp_base::{Limit, Refusal};
+use gp_base::{Limit, Refusal, Stop};
 use gp_grammar::MAX_LINE_LENGTH;
 use gp_lexer::{LexStop, Lexeme, Lexemes, lex};
 use std::alloc::Global;
@@ -41,7 +41,7 @@ fn is_utf8(text: &[u8]) -> bool
 }
 
 /// The lexemes of a text, unless it has a lexical fault or opens too many brackets.
-fn shallow_lexemes(alloc: Global, text: &[u8]) -> Result<Lexemes, ReadStop>
+fn shallow_lexemes(alloc: Global, text: &[u8]) -> Result<Lexemes, Stop>
     requires { length text.now < 2 ^ 32 - 1 }
     ensures { Returns (λ lexemes. lexemes) result (shallow (lexed text.now)) }
 {
@@ -49,25 +49,25 @@ fn shallow_lexemes(alloc: Global, text: &[u8]) -> Result<Lexemes, ReadStop>
         Ok(lexemes) => {
             if is_too_deep(lexemes.lexemes()) {
                 let limit = Limit::Depth;
-                Err(ReadStop::Refused(Refusal::E14 { limit }))
+                Err(Stop::Refused(Refusal::E14 { limit }))
             } else {
                 Ok(lexemes)
             }
         }
-        Err(LexStop::Fault { column }) => Err(ReadStop::Refused(Refusal::E02 { column })),
-        Err(LexStop::NoMemory) => Err(ReadStop::NoMemory),
+        Err(LexStop::Fault { column }) => Err(Stop::Refused(Refusal::E02 { column })),
+        Err(LexStop::NoMemory) => Err(Stop::NoMemory),
     }
 }
 
 /// The lexemes of a text, unless it is not UTF-8, has a lexical fault or opens too many brackets.
-fn tested_lexemes(alloc: Global, text: &[u8]) -> Result<Lexemes, ReadStop>
+fn tested_lexemes(alloc: Global, text: &[u8]) -> Result<Lexemes, Stop>
     requires { length text.now < 2 ^ 32 - 1 }
     ensures { Returns (λ lexemes. lexemes) result (tested_lexemes text.now) }
 {
     if is_utf8(text) {
         shallow_lexemes(alloc, text)
     } else {
-        Err(ReadStop::Refused(Refusal::E01))
+        Err(Stop::Refused(Refusal::E01))
     }
 }
 
@@ -161,19 +161,19 @@ impl Sentence for Question {
 }
 
 /// The statement, unless it passes a limit.
-fn limited<T: Sentence>(statement: T) -> Result<T, ReadStop>
+fn limited<T: Sentence>(statement: T) -> Result<T, Stop>
     ensures { Returns T.view result
         (within_shape (T.view statement) (passed_limit (T.shape (T.view statement)))) }
 {
     match statement.limit() {
-        Some(limit) => Err(ReadStop::Refused(Refusal::E14 { limit })),
+        Some(limit) => Err(Stop::Refused(Refusal::E14 { limit })),
         None => Ok(statement),
     }
 }
 
 /// The statement that the text is read as.
 #[tactic(auto, using(crate::proofs::ReadingLemmas::readings))]
-fn read_text<T: Sentence>(alloc: Global, text: &[u8]) -> Result<T, ReadStop>
+fn read_text<T: Sentence>(alloc: Global, text: &[u8]) -> Result<T, Stop>
     requires { length text.now < 2 ^ 32 - 1 }
     ensures { Returns T.view result (read_text T.parser T.shape text.now) }
 {
@@ -181,9 +181,9 @@ fn read_text<T: Sentence>(alloc: Global, text: &[u8]) -> Result<T, ReadStop>
     match T::parse(alloc, lexemes.lexemes()) {
         Ok(statement) => limited(statement),
         Err(ParseStop::At(rest)) => {
-            Err(ReadStop::Refused(syntax_refusal(&lexemes, rest, text.len())))
+            Err(Stop::Refused(syntax_refusal(&lexemes, rest, text.len())))
         }
-        Err(ParseStop::NoMemory) => Err(ReadStop::NoMemory),
+        Err(ParseStop::NoMemory) => Err(Stop::NoMemory),
     }
 }
 
@@ -192,7 +192,7 @@ fn read_text<T: Sentence>(alloc: Global, text: &[u8]) -> Result<T, ReadStop>
 /// A text is refused for the first of these: it is not UTF-8 (E01); no lexeme can be read at a place (E02); more than 60
 /// brackets and CASEs are open (E14 `depth`); it is no command (E03, at the first lexeme that fits nothing); it passes a
 /// limit (E14 `columns`, `from`, `branches`, `values`, `nodes` or `depth`, in this order).
-pub fn read_command(alloc: Global, text: &[u8]) -> Result<Command, ReadStop>
+pub fn read_command(alloc: Global, text: &[u8]) -> Result<Command, Stop>
     requires { length text.now < 2 ^ 32 - 1 }
     ensures exact { Returns command_view result (command_of text.now) }
 {
@@ -203,21 +203,21 @@ pub fn read_command(alloc: Global, text: &[u8]) -> Result<Command, ReadStop>
 ///
 /// A line of more than [`MAX_LINE_LENGTH`] bytes is refused as such (E16), and any other for the reasons of
 /// [`read_command`], in the same order.
-pub fn read_line(alloc: Global, line: &[u8]) -> Result<ScriptLine, ReadStop>
+pub fn read_line(alloc: Global, line: &[u8]) -> Result<ScriptLine, Stop>
     ensures exact { Returns line_view result (script_line_of line.now) }
 {
     if line.len() > MAX_LINE_LENGTH {
-        return Err(ReadStop::Refused(Refusal::E16));
+        return Err(Stop::Refused(Refusal::E16));
     }
     read_text(alloc, line)
 }
 
 /// Reads a question, perhaps with a semicolon behind it. Refusals come as from [`read_line`].
-pub fn read_question(alloc: Global, line: &[u8]) -> Result<Question, ReadStop>
+pub fn read_question(alloc: Global, line: &[u8]) -> Result<Question, Stop>
     ensures exact { Returns question_view result (question_of line.now) }
 {
     if line.len() > MAX_LINE_LENGTH {
-        return Err(ReadStop::Refused(Refusal::E16));
+        return Err(Stop::Refused(Refusal::E16));
     }
     read_text(alloc, line)
 }

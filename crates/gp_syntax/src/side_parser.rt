@@ -1,55 +1,34 @@
-//! The parser of differences: two sides, and states of which some rows are left.
+//! The parser of differences, each of two sides.
 
-ghost use Rattle.std.specs.Prelude.{◌≡◌, IfOk};
+ghost use Rattle.std.specs.Prelude.{◌≡◌, IfOk, List};
 ghost use Rattle.gp_grammar.specs.QuestionParsing as spec;
 ghost use Rattle.gp_grammar.specs.Syntax as y;
 ghost use Rattle.gp_syntax.specs.Parses.{Parses};
-ghost use Rattle.gp_syntax.specs.QuestionParts.{changed_kept, to_second};
-ghost use Rattle.gp_syntax.specs.Views.{how_view, kept_view, query_view, question_view, side_view};
+ghost use Rattle.gp_syntax.specs.QuestionParts.{changed_subject, to_second};
+ghost use Rattle.gp_syntax.specs.Views.{query_view, question_view, side_view, subject_view};
 
-use crate::change_parser::change;
+use crate::change_parser::changes_of;
 use crate::command::Query;
 use crate::error::ParseStop;
 use crate::lexeme_parser::{expect_word, strip_word};
-use crate::question::{How, Kept, Question, Side};
-use crate::question_parser::{with_query, with_state, without};
+use crate::question::{Question, Side, Subject};
+use crate::subject_parser::{kept, side_subject, with_query};
 use gp_lexer::Lexeme;
 use std::alloc::Global;
 
-/// The rows of a state, or those that are left without some tokens.
-#[tactic(auto, unfolding(gp_grammar::specs::QuestionParsing::kept_how))]
-fn kept_how(alloc: Global, lexemes: &[Lexeme]) -> Result<(How, &[Lexeme]), ParseStop<'_>>
-    ensures { Parses how_view result (spec.kept_how lexemes.now) }
-{
-    match strip_word(lexemes, b"without") {
-        Some(rest) => without(alloc, rest),
-        None => Ok((How::Rows, lexemes)),
-    }
-}
-
-/// A state as it is, or without the rows of some tokens.
-#[tactic(auto, unfolding(gp_grammar::specs::QuestionParsing::kept))]
-fn kept(alloc: Global, lexemes: &[Lexeme]) -> Result<(Kept, &[Lexeme]), ParseStop<'_>>
-    ensures { Parses kept_view result (spec.kept lexemes.now) }
-{
-    let (how, rest) = kept_how(alloc, lexemes)?;
-    let ((how, state), rest) = with_state(how, rest)?;
-    Ok((Kept { how, state }, rest))
-}
-
-/// The value, and the state behind OF.
-fn with_kept<T: Drop>(
+/// The value, and what a side is about, behind OF.
+fn with_side_subject<T: Drop>(
     alloc: Global,
     value: T,
     lexemes: &[Lexeme],
-) -> Result<((T, Kept), &[Lexeme]), ParseStop<'_>>
+) -> Result<((T, Subject), &[Lexeme]), ParseStop<'_>>
     ensures value { IfOk result (λ r. r.0.0 ≡ value) }
-    ensures kept { (change : y.LogChange)
-        → Parses (λ r. y.changed change (kept_view r.1)) result (changed_kept change lexemes.now) }
+    ensures subject { (changes : List y.LogChange) → Parses
+        (λ r. y.changed changes (subject_view r.1)) result (changed_subject changes lexemes.now) }
 {
     let rest = expect_word(lexemes, b"of")?;
-    let (kept, rest) = kept(alloc, rest)?;
-    Ok(((value, kept), rest))
+    let (subject, rest) = side_subject(alloc, rest)?;
+    Ok(((value, subject), rest))
 }
 
 /// A side without a change.
@@ -57,18 +36,18 @@ fn with_kept<T: Drop>(
 fn as_is_side(alloc: Global, lexemes: &[Lexeme]) -> Result<(Side, &[Lexeme]), ParseStop<'_>>
     ensures { Parses side_view result (spec.as_is_side lexemes.now) }
 {
-    let (kept, rest) = kept(alloc, lexemes)?;
-    Ok((Side::AsIs { kept }, rest))
+    let (subject, rest) = side_subject(alloc, lexemes)?;
+    Ok((Side::AsIs { subject }, rest))
 }
 
-/// A side with a change, behind WHATIF.
+/// A side with changes, behind WHATIF.
 #[tactic(auto, unfolding(gp_grammar::specs::QuestionParsing::changed_side))]
 fn changed_side(alloc: Global, lexemes: &[Lexeme]) -> Result<(Side, &[Lexeme]), ParseStop<'_>>
     ensures { Parses side_view result (spec.changed_side lexemes.now) }
 {
-    let (change, rest) = change(alloc, lexemes)?;
-    let ((change, kept), rest) = with_kept(alloc, change, rest)?;
-    Ok((Side::Changed { change, kept }, rest))
+    let (changes, rest) = changes_of(alloc, lexemes)?;
+    let ((changes, subject), rest) = with_side_subject(alloc, changes, rest)?;
+    Ok((Side::Changed { changes, subject }, rest))
 }
 
 #[tactic(auto, unfolding(gp_grammar::specs::QuestionParsing::side))]
@@ -119,14 +98,15 @@ pub(crate) fn diff(
 }
 
 /// A CAUSES, behind OF.
-#[tactic(auto, unfolding(gp_grammar::specs::QuestionParsing::caused))]
+#[tactic(auto, unfolding(gp_grammar::specs::QuestionParsing::asked_of))]
 pub(crate) fn caused(
     alloc: Global,
     lexemes: &[Lexeme],
 ) -> Result<(Question, &[Lexeme]), ParseStop<'_>>
-    ensures { Parses question_view result (spec.caused lexemes.now) }
+    ensures { Parses question_view result
+        (spec.asked_of y.Question.causes spec.kept lexemes.now) }
 {
-    let (kept, rest) = kept(alloc, lexemes)?;
-    let ((kept, query), rest) = with_query(alloc, kept, rest)?;
-    Ok((Question::Causes { kept, query }, rest))
+    let (subject, rest) = kept(alloc, lexemes)?;
+    let ((subject, query), rest) = with_query(alloc, subject, rest)?;
+    Ok((Question::Causes { subject, query }, rest))
 }
