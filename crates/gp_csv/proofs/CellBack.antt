@@ -1,5 +1,5 @@
 -- A cell of an answer is read back from its field.
-use Rattle.std.proofs.Common.{◌≡◌, ℕ, zero, suc, ℤ, pos, negsuc, ◌+◌, ◌*◌, ◌-◌, ◌^◌, ◌<◌, ◌≤◌, Bool, true, false, cond, ltb, eqb, List, [], ◌∷◌, Option, Some, None, option_and_then, refl, sym, ap, subst, ◌∙◌, arith}
+use Rattle.std.proofs.Common.{◌≡◌, ℕ, zero, suc, ℤ, pos, negsuc, ◌-◌, ◌^◌, ◌<◌, ◌≤◌, Bool, true, false, cond, ltb, eqb, List, [], ◌∷◌, Option, Some, None, option_and_then, refl, sym, ap, subst, ◌∙◌, arith}
 use Rattle.std.specs.Option.{option_map}
 use Rattle.std.specs.Fmt.{decimal}
 use Rattle.std.specs.Str.{bytes_eq}
@@ -10,9 +10,10 @@ use Rattle.gp_base.specs.declared.cell.Cell.TheVariants as cell
 use Rattle.gp_base.specs.declared.table.Kind.{Kind}
 use Rattle.gp_base.specs.declared.table.Kind.TheVariants as kind
 use Rattle.gp_csv.specs.Answers.{escaped, field_of}
-use Rattle.gp_csv.specs.Fields.{read_on, magnitude_of, positive_of, negative_of, null_field, unescaped, cell_of}
-use Rattle.gp_base.proofs.DigitLemmas.{all_digits, fold, in_range, own}
-use Rattle.gp_base.specs.Digits.{is_digit}
+use Rattle.gp_csv.specs.Fields.{magnitude_of, positive_of, negative_of, null_field, unescaped, cell_of}
+use Rattle.gp_base.proofs.DigitLemmas.{fold, in_range, own}
+use Rattle.gp_base.proofs.SaturatingLemmas.{read-digits}
+use Rattle.gp_base.specs.Digits.{are_digits, is_digit}
 
 -- ---- texts
 
@@ -42,10 +43,6 @@ null-back column = refl
 
 -- ---- numbers
 
-read-digits : (n : ℕ) (ds : List ℕ) → all_digits ds ≡ true → read_on n ds ≡ Some (fold n ds)
-read-digits n [] all = refl
-read-digits n (d ∷ ds) all = let p = and_parts (is_digit d) (all_digits ds) all in rw p.0 (read-digits (10 * n + (d - 48)) ds p.1)
-
 abbrev IsFull : List ℕ → Type 0
 IsFull [] = ⊥
 IsFull (d ∷ ds) = Unit {0}
@@ -58,7 +55,7 @@ decimal-full : (n : ℕ) → n < 2 ^ 64 → IsFull (decimal n)
 decimal-full zero small = subst IsFull (sym (decimal_digit 0 (omega arith))) tt
 decimal-full (suc n) small = full-by (decimal (suc n)) n (digits_value-decimal own (suc n) small)
 
-magnitude-by : (ds : List ℕ) (n : ℕ) → IsFull ds → all_digits ds ≡ true → fold 0 ds ≡ n → magnitude_of ds ≡ Some n
+magnitude-by : (ds : List ℕ) (n : ℕ) → IsFull ds → are_digits ds ≡ true → fold 0 ds ≡ n → magnitude_of ds ≡ Some n
 magnitude-by [] n full all value = absurd full
 magnitude-by (d ∷ ds) n full all value = read-digits 0 (d ∷ ds) all ∙ ap (λ (k : ℕ). Some k) value
 
@@ -73,11 +70,11 @@ negative-small : (n : ℕ) → fits_number (negsuc n) ≡ true → n < 2 ^ 63
 negative-small n fits = let p : n ≤ 2 ^ 63 - 1 = leb-true n (2 ^ 63 - 1) (and_parts _ true fits).0 in omega (arith, p)
 
 -- a digit is no sign and no backslash
-positive-by : (ds : List ℕ) (m : Option ℕ) → IsFull ds → all_digits ds ≡ true → magnitude_of ds ≡ m → cell_of kind.Int ds ≡ option_map (λ (number : ℤ). cell.Int number) (option_and_then positive_of m)
+positive-by : (ds : List ℕ) (m : Option ℕ) → IsFull ds → are_digits ds ≡ true → magnitude_of ds ≡ m → cell_of kind.Int ds ≡ option_map (λ (number : ℤ). cell.Int number) (option_and_then positive_of m)
 unfolding cell_of
 positive-by [] m full all e = absurd full
 positive-by (d ∷ ds) m full all e =
-    let r = in_range d (and_parts (is_digit d) (all_digits ds) all).0 in
+    let r = in_range d (and_parts (is_digit d) (are_digits ds) all).0 in
     let slash : eqb d 92 ≡ false = ne_eqb d 92 (λ h. omega (arith, h, r.0, r.1)) in
     let minus : eqb d 45 ≡ false = ne_eqb d 45 (λ h. omega (arith, h, r.0, r.1)) in
     rw (slash, minus) (ap (λ (x : Option ℕ). option_map (λ (number : ℤ). cell.Int number) (option_and_then positive_of x)) e)

@@ -1,10 +1,8 @@
 -- Each INSERT line of a script takes as many of the next rows as it can.
-use Rattle.std.proofs.Common.{◌≡◌, ℕ, suc, ◌+◌, ◌<◌, Bool, true, false, leb, ltb, ◌&&◌, List, [], ◌∷◌, ◌++◌, length, length-append, Result, Ok, sym, ap, subst, ◌∙◌, append_assoc, append-nil, arith, inl, inr}
-use Rattle.std.specs.Prelude.{◌⊎◌}
+use Rattle.std.proofs.Common.{◌≡◌, ℕ, suc, ◌+◌, ◌<◌, false, leb, ltb, List, [], ◌∷◌, ◌++◌, length, length-append, Ok, sym, ap, subst, ◌∙◌, append_assoc, append-nil, arith, inl, inr}
 use Rattle.std.proofs.lemmas.Bool.{cases_Bool, leb-false, lt-ltb}
 use Rattle.gp_grammar.specs.Syntax.{insert}
 use Rattle.gp_grammar.specs.declared.limits.TheConstants.{MAX_LINE_LENGTH, MAX_VALUES}
-use Rattle.gp_csv.specs.Faults.{Fault}
 use Rattle.gp_csv.specs.Scripts.{Row, session_line, fits_line, batches_from, batches_of}
 use Rattle.gp_csv.specs.SheetForms.{PassesLimit}
 use Rattle.gp_csv.specs.declared.error.TheConstants.{LONG_ROW, TOO_MANY}

@@ -16,7 +16,7 @@ use Rattle.gp_csv.specs.Scripts.{session_line, ended_line, fits_line, batches_fr
 use Rattle.gp_csv.specs.SheetForms.{ArePlainRows}
 use Rattle.gp_csv.specs.declared.error.TheConstants.{LONG_ROW, TOO_MANY}
 use Rattle.gp_csv.specs.declared.script.TheConstants.{MAX_ROWS, MAX_INSERTS, MAX_STEPS}
-use Rattle.gp_csv.specs.declared.script.Line.{Line}
+use Rattle.gp_csv.specs.declared.script.LineCounts.{LineCounts}
 use Rattle.gp_csv.specs.declared.sheet.Sheet.{Sheet}
 use Rattle.gp_csv.proofs.TextLemmas.{line-one, line-more, all_more, commit-line, begin-line}
 
@@ -103,7 +103,7 @@ expected-more before name n line (Ok more) full =
     ∙ ap (λ (t : List ℕ). before ++ t) (append_assoc (session_line (insert name line)) (line_end (suc n)) (tail name (suc (suc n)) more) ∙ sym (tail-more name n line more full)))
 
 -- the last line as the script has it
-abbrev last_line : List ℕ → ℕ → List (List Cell) → Line
+abbrev last_line : List ℕ → ℕ → List (List Cell) → LineCounts
 last_line name n line = record { length = length (session_line (insert name line)); rows = length line; inserts = n }
 
 abbrev last_written : List ℕ → List ℕ → ℕ → List (List Cell) → Output

@@ -20,14 +20,10 @@ use Rattle.gp_csv.specs.Packing.{tuple_text, insert_text}
 use Rattle.gp_csv.specs.Scripts.{session_line, ended_line}
 use Rattle.gp_csv.specs.SheetForms.{ArePlainRows}
 use Rattle.gp_grammar.specs.Canonical.{cell_lexemes, tuple_lexemes, listed_lexemes, command_lexemes}
+use Rattle.gp_syntax.proofs.CanonicalLemmas.{written-append}
 
 abbrev page : List ℕ → Gap → Page
 page text gap = record { text = text; gap = gap }
-
-written-append : (p : Page) (a b : Lexemes) → written p (a ++ b) ≡ written (written p a) b
-unfolding written
-written-append p [] b = refl
-written-append p (t ∷ a) b = written-append (put p t) a b
 
 big-text : (text : List ℕ) (n : ℕ) → n ≡ 2 ^ 63 → put (page text Joined) Big ≡ page (text ++ decimal n) Spaced
 unfolding digits

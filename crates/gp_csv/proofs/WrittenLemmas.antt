@@ -1,15 +1,12 @@
 -- The text of a record is the same whether or not its writer takes records of other lengths.
 use Rattle.std.proofs.Common.{◌≡◌, ℕ, List, [], ◌∷◌, refl}
-use Rattle.csv.specs.Writing.{default_writer, escaped, field_text, fields_text, is_blank, row_text}
+use Rattle.csv.specs.Writing.{default_writer, escaped, fields_text, is_blank, row_text}
 use Rattle.gp_csv.specs.Written.{flexible_writer}
 
 escaped-same : (field : List ℕ) → escaped flexible_writer field ≡ escaped default_writer field
 unfolding escaped
 escaped-same [] = refl
 escaped-same (byte ∷ bytes) = rw (escaped-same bytes) refl
-
-field-same : (field : List ℕ) → field_text flexible_writer field ≡ field_text default_writer field
-field-same field = rw (escaped-same field) refl
 
 fields-same : (fields : List (List ℕ)) → fields_text flexible_writer fields ≡ fields_text default_writer fields
 unfolding fields_text

@@ -1,10 +1,10 @@
 -- Part of the statement: the cells that fields of a sheet write. NULL is `\N`, as in the text format of PostgreSQL's COPY, or an empty field of an
 -- INT column. A text that begins with a backslash is written with two.
-use Rattle.std.specs.Prelude.{ℕ, ℤ, zero, suc, pos, negsuc, ◌+◌, ◌*◌, ◌-◌, ◌^◌, nat_lt, Bool, List, [], ◌∷◌, Option, Some, None, is_some, option_and_then, if◌then◌else◌, ◌==◌, true}
+use Rattle.std.specs.Prelude.{ℕ, ℤ, zero, suc, pos, negsuc, ◌^◌, nat_lt, Bool, List, [], ◌∷◌, Option, Some, None, is_some, option_and_then, if◌then◌else◌, ◌==◌, true}
 use Rattle.std.specs.Option.{option_map, option_map_or}
 use Rattle.std.specs.Str.{bytes_eq}
 use Rattle.csv.specs.Records.{field_at}
-use Rattle.gp_base.specs.Digits.{is_digit}
+use Rattle.gp_base.specs.Digits.{read_on}
 use Rattle.gp_base.specs.Cells.{is_user_text}
 use Rattle.gp_base.specs.declared.cell.Cell.{Cell}
 use Rattle.gp_base.specs.declared.cell.Cell.TheVariants as cell
@@ -14,11 +14,6 @@ use Rattle.gp_base.specs.declared.table.Kind.TheVariants as kind
 use Rattle.gp_csv.specs.declared.field.TheConstants.{BACKSLASH, MINUS}
 
 -- ---- numbers
-
--- the number that digits write after those of a number; none if a byte is no digit
-abbrev pub read_on : ℕ → List ℕ → Option ℕ
-read_on number [] = Some number
-read_on number (byte ∷ bytes) = if is_digit byte then read_on (10 * number + (byte - 48)) bytes else None
 
 -- the number of one digit or more; leading zeros count nothing
 abbrev pub magnitude_of : List ℕ → Option ℕ

@@ -10,7 +10,7 @@ use Rattle.gp_grammar.specs.declared.limits.TheConstants.{MAX_LINE_LENGTH, MAX_V
 use Rattle.gp_csv.specs.Faults.{Fault, refuse, result_map, result_then}
 use Rattle.gp_csv.specs.declared.error.TheConstants.{LONG_ROW, TOO_MANY}
 use Rattle.gp_csv.specs.declared.script.TheConstants.{MAX_ROWS, MAX_INSERTS, MAX_STEPS}
-use Rattle.gp_csv.specs.declared.script.Line.{Line}
+use Rattle.gp_csv.specs.declared.script.LineCounts.{LineCounts}
 use Rattle.gp_csv.specs.declared.sheet.Sheet.{Sheet}
 
 -- a row in brackets
@@ -23,10 +23,10 @@ insert_text name = concat (codes "s1: INSERT INTO " ∷ name ∷ codes " VALUES 
 
 -- a script up to its last INSERT line, which has no line feed yet, and the counts of that line
 abbrev pub Output : Type 0
-Output = List ℕ × Line
+Output = List ℕ × LineCounts
 
 -- whether the line has room for one more tuple
-abbrev pub has_room : Line → List ℕ → Bool
+abbrev pub has_room : LineCounts → List ℕ → Bool
 has_room line tuple = nat_lt 0 line.rows && (nat_lt line.rows MAX_VALUES && nat_le (line.length + 2 + length tuple) MAX_LINE_LENGTH)
 
 abbrev pub joined : Output → List ℕ → Output
@@ -59,7 +59,7 @@ put_rows prefix number written (row ∷ rows) =
     result_then (λ (next : Output). put_rows prefix (suc number) next rows) (put_row prefix number written (tuple_text row))
 
 -- no INSERT line yet
-abbrev pub no_line : Line
+abbrev pub no_line : LineCounts
 no_line = record { length = 0; rows = 0; inserts = 0 }
 
 -- ---- whole scripts

@@ -2,7 +2,6 @@
 
 ghost use Rattle.std.specs.Prelude.{◌≡◌, IfOk};
 ghost use Rattle.std.specs.Option.{option_map};
-ghost use Rattle.std.specs.Str.{is_utf8};
 ghost use Rattle.gp_csv.specs.Fields.{after_escape, cell_of, int_cell_of, text_cell, unescaped, value_cell_of};
 ghost use Rattle.gp_csv.specs.Fields.{is_int_field};
 
@@ -15,17 +14,6 @@ pub(crate) const BACKSLASH: u8 = b'\\';
 
 /// The sign of a number.
 pub(crate) const MINUS: u8 = b'-';
-
-/// Whether the bytes are UTF-8.
-#[tactic(auto, using(crate::proofs::FieldLemmas::encodings))]
-pub(crate) fn is_utf8(text: &[u8]) -> bool
-    ensures { result ≡ is_utf8 text.now }
-{
-    match std::str::from_utf8(text) {
-        Ok(_) => true,
-        Err(_) => false,
-    }
-}
 
 /// The text after an escaping backslash, which has to begin with a backslash itself.
 fn after_escape(text: &[u8]) -> Option<&[u8]>

@@ -28,7 +28,7 @@ pub const MAX_STEPS: usize = 256;
 
 /// Counts of the last INSERT line of a script that is being written.
 #[derive(Clone, Copy)]
-pub(crate) struct Line {
+pub(crate) struct LineCounts {
     /// The bytes of the line.
     pub length: usize,
     /// The rows of the line.
@@ -56,7 +56,7 @@ fn insert_text(alloc: Global, name: &Name) -> Result<Vec<u8>, NoMemory>
 }
 
 /// Whether the line has room for one more tuple.
-fn has_room(line: Line, tuple: &[u8]) -> bool
+fn has_room(line: LineCounts, tuple: &[u8]) -> bool
     ensures { result ≡ has_room line tuple.now }
 {
     0 < line.rows
@@ -78,13 +78,13 @@ fn line_end(lines: usize) -> &'static [u8]
 }
 
 /// Adds a tuple to the last line.
-fn join(script: &mut Vec<u8>, line: Line, tuple: &[u8]) -> Result<Line, NoMemory>
+fn join(script: &mut Vec<u8>, line: LineCounts, tuple: &[u8]) -> Result<LineCounts, NoMemory>
     requires { has_room line tuple.now ≡ true }
     ensures { IfOk result (λ next. (script.new.items, next)
         ≡ joined (script.old.items, line) tuple.now) }
 {
     append_all(script, &[b", ", tuple])?;
-    Ok(Line {
+    Ok(LineCounts {
         length: line.length + 2 + tuple.len(),
         rows: line.rows + 1,
         inserts: line.inserts,
@@ -95,9 +95,9 @@ fn join(script: &mut Vec<u8>, line: Line, tuple: &[u8]) -> Result<Line, NoMemory
 fn begin_line(
     script: &mut Vec<u8>,
     prefix: &[u8],
-    line: Line,
+    line: LineCounts,
     tuple: &[u8],
-) -> Result<Line, NoMemory>
+) -> Result<LineCounts, NoMemory>
     requires few { line.inserts < MAX_INSERTS }
     requires short { length prefix.now + length tuple.now ≤ MAX_LINE_LENGTH }
     ensures { IfOk result (λ next. (script.new.items, next)
@@ -106,7 +106,7 @@ fn begin_line(
     script.extend_from_slice(line_end(line.inserts))?;
     script.extend_from_slice(prefix)?;
     script.extend_from_slice(tuple)?;
-    Ok(Line {
+    Ok(LineCounts {
         length: prefix.len() + tuple.len(),
         rows: 1,
         inserts: line.inserts + 1,
@@ -118,9 +118,9 @@ fn place(
     script: &mut Vec<u8>,
     prefix: &[u8],
     number: u32,
-    line: Line,
+    line: LineCounts,
     tuple: &[u8],
-) -> Result<Line, CsvStop>
+) -> Result<LineCounts, CsvStop>
     requires { length prefix.now + length tuple.now ≤ MAX_LINE_LENGTH }
     ensures { Returns (λ next. (script.new.items, next)) result
         (placed prefix.now number (script.old.items, line) tuple.now) }
@@ -143,9 +143,9 @@ fn put_row(
     script: &mut Vec<u8>,
     prefix: &[u8],
     number: u32,
-    line: Line,
+    line: LineCounts,
     tuple: &[u8],
-) -> Result<Line, CsvStop>
+) -> Result<LineCounts, CsvStop>
     ensures exact { Returns (λ next. (script.new.items, next)) result
         (put_row prefix.now number (script.old.items, line) tuple.now) }
     ensures few { OnOk result (number ≤ MAX_ROWS + 1) }
@@ -171,9 +171,9 @@ fn add_row(
     script: &mut Vec<u8>,
     prefix: &[u8],
     number: u32,
-    line: Line,
+    line: LineCounts,
     row: &Row,
-) -> Result<Line, CsvStop>
+) -> Result<LineCounts, CsvStop>
     ensures exact { Returns (λ next. (script.new.items, next)) result
         (put_row prefix.now number (script.old.items, line) (tuple_text row.now)) }
     ensures few { OnOk result (number ≤ MAX_ROWS + 1) }
@@ -188,11 +188,11 @@ fn add_rows(
     script: &mut Vec<u8>,
     prefix: &[u8],
     rows: &[Row],
-) -> Result<Line, CsvStop>
+) -> Result<LineCounts, CsvStop>
     ensures { Returns (λ next. (script.new.items, next)) result
         (put_rows prefix.now 2 (script.old.items, no_line) rows.now) }
 {
-    let mut line = Line {
+    let mut line = LineCounts {
         length: 0,
         rows: 0,
         inserts: 0,

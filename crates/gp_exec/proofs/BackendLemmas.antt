@@ -10,14 +10,14 @@ use Rattle.gp_base.specs.UserCells.{is_user_cell}
 use Rattle.gp_expr.specs.LargeValues.{is_large}
 use Rattle.gp_algebra.specs.Plain.{PlainEnvironment, PlainProgram, PlainStep, StepRows, meaning, no_steps, program_meaning, with_step}
 use Rattle.gp_algebra.specs.Stops as stops
-use Rattle.gp_algebra.specs.Stops.{Stop, first_stop, stop_at, steps_stop, program_stop}
+use Rattle.gp_algebra.specs.Stops.{Stop, first_stop, stop_at, steps_stop}
 use Rattle.gp_algebra.specs.Plain.{is_insert}
 use Rattle.gp_algebra.specs.WellBuilt.{is_among}
 use Rattle.gp_exec.specs.declared.env.Env.{Env}
 use Rattle.gp_exec.specs.declared.error.ExecStop.{ExecStop}
 use Rattle.gp_exec.specs.declared.error.ExecStop.TheVariants as exec
 use Rattle.gp_base.specs.declared.limit.TheConstants.{MAX_TABLE_ROWS}
-use Rattle.gp_exec.specs.Backends.{Executes, IsGiven, KeepsUserCells, StopsAtStep, step_numbers}
+use Rattle.gp_exec.specs.Backends.{KeepsUserCells, StopsAtStep, step_numbers}
 use Rattle.gp_exec.specs.Running.{Runs, environment_view}
 
 -- the step of a stop
@@ -64,13 +64,6 @@ module _ (most_rows most_nodes : ℕ) (env : PlainEnvironment) where
       go rest None here is = right (s.j == stop_number stop) (rest is)
 
 module _ {X : Type 0} (view : X → List (List Cell)) (env : Env) (program : PlainProgram) where
-  pub executed : (result : Result X ExecStop) → Runs view result env program → IsGiven view Executes result program (environment_view env)
-  executed (Ok found) runs = runs
-  executed (Err (exec.Rows j)) runs = runs
-  executed (Err (exec.Ancestry j)) runs = runs
-  executed (Err exec.Answer) runs = runs
-  executed (Err exec.NoMemory) runs = tt
-
   pub keeps_user_cells : (result : Result X ExecStop) → Runs view result env program → KeepsUserCells view result program (environment_view env)
   keeps_user_cells (Ok found) runs = λ none.
       list_any-IsPermutation (list_any (λ cell. not (is_user_cell cell))) (view found) (program_meaning (environment_view env) program) runs.1.0 ∙ none

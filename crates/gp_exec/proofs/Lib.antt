@@ -9,7 +9,7 @@ pub mod IndexLemmas
 pub mod InputLemmas
 pub mod JoinLemmas
 pub mod JoiningLemmas
-pub mod LookingLemmas
+pub mod CellLemmas
 pub mod ProductLemmas
 pub mod ProgramLemmas
 pub mod PublishingLemmas

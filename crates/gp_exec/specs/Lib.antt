@@ -7,7 +7,7 @@ pub mod Joining
 pub mod Joins
 pub mod Keys
 pub mod Liveness
-pub mod Looking
+pub mod PendingRows
 pub mod Products
 pub mod Publishing
 pub mod Running

@@ -12,7 +12,7 @@
 //! equality of columns, which `equality` finds, `input` gives the rows that join a row: it knows the places of the cells of a column,
 //! by `cell_index` and `key`. `found` has the rows of a query where they stand, and filters them there; `projection` makes rows of rows.
 //! `publication` puts a transaction onto a later version: its rows are `pending`, and the marks and identities that they will have
-//! are found by a `look` before they are made; `writing` tells by them what the transaction wrote. `evaluation` evaluates a query by
+//! are found at a `CellPlace` before they are made; `writing` tells by them what the transaction wrote. `evaluation` evaluates a query by
 //! these, up to a limit where there is one. `steps` takes the steps of a program in turn, as a [`Stepper`] tells, which for plain
 //! programs is in `program`. The rows of a step are `done`, and `liveness` tells which of them later steps still read.
 //!
@@ -24,6 +24,7 @@
 
 mod backend;
 mod cell_index;
+mod cell_place;
 mod done;
 mod early;
 mod env;
@@ -35,7 +36,6 @@ mod input;
 mod join;
 mod key;
 mod liveness;
-mod look;
 mod pending;
 mod program;
 mod projection;

@@ -6,10 +6,10 @@ ghost use Rattle.gp_algebra.specs.Plain as p;
 ghost use Rattle.gp_expr.specs.Values.{column};
 ghost use Rattle.gp_expr.specs.Views.{expr_view};
 ghost use Rattle.gp_exec.specs.Evaluating.{found_rows};
-ghost use Rattle.gp_exec.specs.Looking.{Finds, IsPending, look_is_simple, looked, pending_rows};
+ghost use Rattle.gp_exec.specs.PendingRows.{Finds, IsPending, place_is_simple, cell_there, pending_rows};
 
+use crate::cell_place::{CellPlace, place_of_cell};
 use crate::found::Found;
-use crate::look::{Look, look_at};
 use crate::projection::values_on;
 use gp_base::{NoMemory, Row};
 use gp_expr::Expr;
@@ -23,20 +23,20 @@ pub struct Pending<'a> {
     /// The expressions that make them; none if they are made already.
     pub exprs: Option<&'a [Expr]>,
     /// Where their identities are found.
-    pub id: Look<'a>,
+    pub id: CellPlace<'a>,
     /// Where their marks are found.
-    pub mark: Look<'a>,
+    pub mark: CellPlace<'a>,
 }
 
 /// Where the identity and the mark of the rows are found that the expressions make, if they are simple.
-pub fn looks_at(exprs: &[Expr], at: u32) -> Option<(Look<'_>, Look<'_>)>
-    ensures id { IfSome result (λ looks. Finds looks.0 at (Some (map expr_view exprs.now))) }
-    ensures mark { IfSome result (λ looks. Finds looks.1 (suc at) (Some (map expr_view exprs.now))) }
+pub fn places_of_cells(exprs: &[Expr], at: u32) -> Option<(CellPlace<'_>, CellPlace<'_>)>
+    ensures id { IfSome result (λ places. Finds places.0 at (Some (map expr_view exprs.now))) }
+    ensures mark { IfSome result (λ places. Finds places.1 (suc at) (Some (map expr_view exprs.now))) }
 {
-    let Some(id) = look_at(exprs, at as usize) else {
+    let Some(id) = place_of_cell(exprs, at as usize) else {
         return None;
     };
-    match look_at(exprs, at as usize + 1) {
+    match place_of_cell(exprs, at as usize + 1) {
         Some(mark) => Some((id, mark)),
         None => None,
     }
@@ -51,16 +51,16 @@ impl<'a> Pending<'a> {
         Pending {
             rows,
             exprs: None,
-            id: Look::Column(at as usize),
-            mark: Look::Column(at as usize + 1),
+            id: CellPlace::Column(at as usize),
+            mark: CellPlace::Column(at as usize + 1),
         }
     }
 
     /// What the marked rows are made of.
     fn marked(&self, alloc: Global) -> Result<Vec<&Row>, NoMemory>
-        requires { look_is_simple self.now.mark ≡ true }
+        requires { place_is_simple self.now.mark ≡ true }
         ensures { IfOk result (λ kept. map (λ r. r.now) kept.items
-            ≡ filter (λ row. p.is_marked (looked self.now.mark row)) (found_rows self.now.rows)) }
+            ≡ filter (λ row. p.is_marked (cell_there self.now.mark row)) (found_rows self.now.rows)) }
     {
         let mut kept = Vec::new(alloc);
         for place in 0..self.rows.len() {
@@ -87,11 +87,11 @@ impl<'a> Pending<'a> {
 fn append_if_marked<'a>(
     rows: &mut Vec<&'a Row>,
     row: &'a Row,
-    mark: Look<'_>,
+    mark: CellPlace<'_>,
 ) -> Result<(), NoMemory>
-    requires { look_is_simple mark ≡ true }
+    requires { place_is_simple mark ≡ true }
     ensures { OnOk result (map (λ r. r.now) rows.new.items ≡ map (λ r. r.now) rows.old.items
-        ++ filter (λ row. p.is_marked (looked mark.entry row)) (row.now ∷ [])) }
+        ++ filter (λ row. p.is_marked (cell_there mark.entry row)) (row.now ∷ [])) }
 {
     if mark.is_marked(row) {
         rows.push(row)?;

@@ -1,5 +1,5 @@
 -- A merged program is well built.
-use Rattle.std.proofs.Common.{◌≡◌, ℕ, zero, suc, ◌<◌, Bool, true, false, cond, List, [], ◌∷◌, refl, sym, ap, ◌∙◌, subst, map}
+use Rattle.std.proofs.Common.{◌≡◌, ℕ, Bool, true, false, cond, List, [], ◌∷◌, refl, sym, ap, ◌∙◌, subst, map}
 use Rattle.std.specs.Prelude.{◌||◌, ◌&&◌, ◌==◌, not, nat_lt, nat_le}
 use Rattle.std.specs.List.{list_all, list_any, sum_by}
 use Rattle.std.proofs.lemmas.Bool.{and_parts, false≢true, or_right}
@@ -15,7 +15,7 @@ use Rattle.gp_merge.specs.Merging.{inlined, stays, settled, tests_times, is_smal
 use Rattle.gp_merge.specs.MergingForms.{step_inlined, program_inlined, step_rebuilt}
 use Rattle.gp_merge.specs.declared.limit.TheConstants.{MAX_PROJECTION_NODES}
 use Rattle.gp_merge.proofs.ExpressionLemmas.{both, none_may_be, each_none_stays, each_may_stay}
-use Rattle.gp_merge.proofs.NormalLemmas.{either_false, inlined_insert, rebuilt_insert}
+use Rattle.gp_merge.proofs.NormalLemmas.{either_false}
 use Rattle.gp_base.proofs.SmallLemmas.{eq_turned}
 
 -- ---- queries
@@ -70,29 +70,29 @@ query_wider numbers more wider (publish at b m l) built =
 
 -- ---- a step in the place of its use
 
-module _ (j : ℕ) (own : Plain) where
+module _ (j : ℕ) (body : Plain) where
   -- the second numbers are the first but this one
   pub record AreBut (numbers others : List ℕ) : Type 0 where
     pub among : (i : ℕ) → is_among numbers i ≡ true → (i == j) ≡ false → is_among others i ≡ true
     pub above : (n : ℕ) → is_above numbers n ≡ true → is_above others n ≡ true
-    pub own_is : query_is_built others own ≡ true
+    pub own_is : query_is_built others body ≡ true
 
   but_more : (numbers others : List ℕ) (n : ℕ) → AreBut numbers others → AreBut (n ∷ numbers) (n ∷ others)
   but_more numbers others n but = record {
     among = λ i is other. more i (n == i) is other;
     above = λ k so. let p = and_parts (nat_lt n k) (is_above numbers k) so in both p.0 (but.above k p.1);
-    own_is = query_wider others (n ∷ others) (λ i is. or_right (n == i) (is_among others i) is) own but.own_is;
+    own_is = query_wider others (n ∷ others) (λ i is. or_right (n == i) (is_among others i) is) body but.own_is;
   }
     where
       more : (i : ℕ) (b : Bool) → (b || is_among numbers i) ≡ true → (i == j) ≡ false → (b || is_among others i) ≡ true
       more i true is other = refl
       more i false is other = but.among i is other
 
-  query_inlined : (numbers others : List ℕ) → AreBut numbers others → (query : Plain) → query_is_built numbers query ≡ true → query_is_built others (inlined j own query) ≡ true
+  query_inlined : (numbers others : List ℕ) → AreBut numbers others → (query : Plain) → query_is_built numbers query ≡ true → query_is_built others (inlined j body query) ≡ true
   query_inlined numbers others but (scan table version) built = refl
   query_inlined numbers others but (step i) built = go (i == j) refl
     where
-      go : (b : Bool) → (i == j) ≡ b → query_is_built others (cond b own (step i)) ≡ true
+      go : (b : Bool) → (i == j) ≡ b → query_is_built others (cond b body (step i)) ≡ true
       go true is = but.own_is
       go false is = but.among i built is
   query_inlined numbers others but (select query c) built = let p = and_parts (query_is_built numbers query) _ built in both (query_inlined numbers others but query p.0) p.1
@@ -104,34 +104,34 @@ module _ (j : ℕ) (own : Plain) where
       let p = and_parts (query_is_built numbers b) _ built in let q = and_parts (query_is_built numbers m) _ p.1 in
       both (query_inlined numbers others but b p.0) (both (query_inlined numbers others but m q.0) (query_inlined numbers others but l q.1))
 
-  rows_inlined : (numbers others : List ℕ) → AreBut numbers others → (query : Plain) → rows_are_built numbers query ≡ true → rows_are_built others (inlined j own query) ≡ true
+  rows_inlined : (numbers others : List ℕ) → AreBut numbers others → (query : Plain) → rows_are_built numbers query ≡ true → rows_are_built others (inlined j body query) ≡ true
   rows_inlined numbers others but (union l r) built = let p = and_parts (rows_are_built numbers l) _ built in both (rows_inlined numbers others but l p.0) (rows_inlined numbers others but r p.1)
   rows_inlined numbers others but (project query exprs) built = let p = and_parts (query_is_built numbers query) _ built in both (query_inlined numbers others but query p.0) p.1
   rows_inlined numbers others but (scan table version) built = refl
-  rows_inlined numbers others but (step i) built = query_rows others (inlined j own (step i)) (query_inlined numbers others but (step i) built)
+  rows_inlined numbers others but (step i) built = query_rows others (inlined j body (step i)) (query_inlined numbers others but (step i) built)
   rows_inlined numbers others but (select query c) built = query_inlined numbers others but (select query c) built
   rows_inlined numbers others but (product l r) built = query_inlined numbers others but (product l r) built
   rows_inlined numbers others but (given rows) built = refl
   rows_inlined numbers others but (publish at b m l) built = query_inlined numbers others but (publish at b m l) built
 
-  contents_inlined : (numbers others : List ℕ) → AreBut numbers others → (query : Plain) → step_is_built numbers query ≡ true → step_is_built others (inlined j own query) ≡ true
+  contents_inlined : (numbers others : List ℕ) → AreBut numbers others → (query : Plain) → step_is_built numbers query ≡ true → step_is_built others (inlined j body query) ≡ true
   contents_inlined numbers others but (union l r) built = let p = and_parts (rows_are_built numbers l) _ built in both (rows_inlined numbers others but l p.0) (rows_inlined numbers others but r p.1)
   contents_inlined numbers others but (project query exprs) built = query_inlined numbers others but (project query exprs) built
   contents_inlined numbers others but (scan table version) built = refl
-  contents_inlined numbers others but (step i) built = query_step others (inlined j own (step i)) (query_inlined numbers others but (step i) built)
+  contents_inlined numbers others but (step i) built = query_step others (inlined j body (step i)) (query_inlined numbers others but (step i) built)
   contents_inlined numbers others but (select query c) built = query_inlined numbers others but (select query c) built
   contents_inlined numbers others but (product l r) built = query_inlined numbers others but (product l r) built
   contents_inlined numbers others but (given rows) built = refl
   contents_inlined numbers others but (publish at b m l) built = query_inlined numbers others but (publish at b m l) built
 
-  steps_inlined : (numbers others : List ℕ) → AreBut numbers others → (steps : List PlainStep) → steps_are_built numbers steps ≡ true → steps_are_built others (map (step_inlined j own) steps) ≡ true
+  steps_inlined : (numbers others : List ℕ) → AreBut numbers others → (steps : List PlainStep) → steps_are_built numbers steps ≡ true → steps_are_built others (map (step_inlined j body) steps) ≡ true
   steps_inlined numbers others but [] built = refl
   steps_inlined numbers others but (s ∷ steps) built =
       let p = and_parts (is_above numbers s.j) _ built in let q = and_parts (step_is_built numbers s.query) _ p.1 in
       both (but.above s.j p.0) (both (contents_inlined numbers others but s.query q.0) (steps_inlined (s.j ∷ numbers) (s.j ∷ others) (but_more numbers others s.j but) steps q.1))
 
   last_inlined : (numbers others : List ℕ) → AreBut numbers others → (steps : List PlainStep) (last : Plain) → query_is_built (numbers_after numbers steps) last ≡ true
-      → query_is_built (numbers_after others (map (step_inlined j own) steps)) (inlined j own last) ≡ true
+      → query_is_built (numbers_after others (map (step_inlined j body) steps)) (inlined j body last) ≡ true
   last_inlined numbers others but [] last built = query_inlined numbers others but last built
   last_inlined numbers others but (s ∷ steps) last built = last_inlined (s.j ∷ numbers) (s.j ∷ others) (but_more numbers others s.j but) steps last built
 
@@ -148,19 +148,19 @@ settled_built numbers (s ∷ steps) last built last_built =
     go p.0 q.0 (settled_built (s.j ∷ numbers) steps last q.1 last_built) (stays s (settled steps last)) refl
   where
     but : step_is_built numbers s.query ≡ true → is_insert s.query ≡ false → AreBut s.j s.query (s.j ∷ numbers) numbers
-    but own none = record {
+    but body none = record {
       among = λ i is other. let there : (s.j == i) ≡ false = eq_turned i s.j other in subst (λ b. (b || is_among numbers i) ≡ true) there is;
       above = λ n so. (and_parts (nat_lt s.j n) (is_above numbers n) so).1;
-      own_is = step_query numbers s.query none own;
+      own_is = step_query numbers s.query none body;
     }
 
     go : is_above numbers s.j ≡ true → step_is_built numbers s.query ≡ true → AreBuilt (s.j ∷ numbers) (settled steps last) → (b : Bool) → stays s (settled steps last) ≡ b
         → AreBuilt numbers (cond b (record (settled steps last) { steps = s ∷ (settled steps last).steps }) (program_inlined s.j s.query (settled steps last)))
-    go above own rest true is = (both above (both own rest.0), rest.1)
-    go above own rest false is =
+    go above body rest true is = (both above (both body rest.0), rest.1)
+    go above body rest false is =
         let none : is_insert s.query ≡ false = either_false _ _ is in (
-          steps_inlined s.j s.query (s.j ∷ numbers) numbers (but own none) (settled steps last).steps rest.0,
-          last_inlined s.j s.query (s.j ∷ numbers) numbers (but own none) (settled steps last).steps (settled steps last).last rest.1,
+          steps_inlined s.j s.query (s.j ∷ numbers) numbers (but body none) (settled steps last).steps rest.0,
+          last_inlined s.j s.query (s.j ∷ numbers) numbers (but body none) (settled steps last).steps (settled steps last).last rest.1,
         )
 
 -- ---- rebuilt queries

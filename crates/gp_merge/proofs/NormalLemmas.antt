@@ -1,5 +1,5 @@
 -- A merged program is normal.
-use Rattle.std.proofs.Common.{◌≡◌, ℕ, zero, suc, ◌+◌, ◌<◌, Bool, true, false, cond, List, [], ◌∷◌, ◌++◌, length, refl, sym, ap, ◌∙◌, subst, arith, map}
+use Rattle.std.proofs.Common.{◌≡◌, ℕ, suc, ◌+◌, ◌<◌, Bool, true, false, cond, List, [], ◌∷◌, refl, sym, ap, ◌∙◌, arith, map}
 use Rattle.std.specs.Prelude.{◌||◌, ◌&&◌, not, ◌==◌, nat_lt}
 use Rattle.std.proofs.lemmas.Bool.{and_parts, false≢true, eqb-true}
 use Rattle.gp_expr.specs.Expressions.{Expr, Cond}
@@ -8,7 +8,7 @@ use Rattle.gp_algebra.specs.Plain.{Plain, scan, step, select, project, product, 
 use Rattle.gp_algebra.specs.Plain.{is_insert}
 use Rattle.gp_merge.specs.Merging.{uses, program_uses, inlined, stays, settled, is_small, selected, projected, rebuilt, merged}
 use Rattle.gp_merge.specs.MergingForms.{step_inlined, program_inlined, step_rebuilt}
-use Rattle.gp_merge.specs.Normal.{is_selection, can_be_one, is_tight, are_normal, is_normal}
+use Rattle.gp_merge.specs.Normal.{can_be_one, is_tight, are_normal, is_normal}
 use Rattle.gp_merge.proofs.Orders.{IsBelow, AreAbove, AreOrdered}
 use Rattle.gp_merge.proofs.InliningLemmas.{above_settled}
 use Rattle.gp_base.proofs.SmallLemmas.{not_eq}
@@ -113,8 +113,8 @@ all_stay (s ∷ steps) last = stays s (record { steps = steps; last = last }) &&
 rebuilt_normal : (steps : List PlainStep) (last : Plain) → all_stay steps last ≡ true → are_normal (map step_rebuilt steps) (rebuilt last) ≡ true
 rebuilt_normal [] last e = rebuilt_tight last
 rebuilt_normal (s ∷ steps) last e =
-    let own : (stays s (record { steps = steps; last = last }) ≡ true) × (all_stay steps last ≡ true) = and_parts _ _ e in
-    λ i. (((λ i. rebuilt_insert s.query i || nat_lt 1 (rebuilt_uses_in s.j steps last i)) ∙ own.0) i && rebuilt_tight s.query i) && rebuilt_normal steps last own.1 i
+    let parts : (stays s (record { steps = steps; last = last }) ≡ true) × (all_stay steps last ≡ true) = and_parts _ _ e in
+    λ i. (((λ i. rebuilt_insert s.query i || nat_lt 1 (rebuilt_uses_in s.j steps last i)) ∙ parts.0) i && rebuilt_tight s.query i) && rebuilt_normal steps last parts.1 i
 
 pub unused_below : (n j : ℕ) (query : Plain) → n < suc j → IsBelow n query → uses j query ≡ 0
 unused_below n j (scan table version) l b = refl
@@ -128,42 +128,42 @@ unused_below n j (publish at x y z) l b = λ i. unused_below n j x l b.0 i + (un
 
 -- what is inlined in place of an earlier s uses no later one, and is no insert
 
-inlined_uses : (j k : ℕ) (own : Plain) → j < k → IsBelow j own → (query : Plain) → uses k (inlined j own query) ≡ uses k query
-inlined_uses j k own l b (scan table version) = refl
-inlined_uses j k own l b (step i) =
-    elim (i == j) as (λ c. (i == j) ≡ c → uses k (cond c own (step i)) ≡ cond (i == k) 1 0) [
-      | true ↦ λ e. unused_below j k own (omega arith) b ∙ ap (λ c. cond c 1 0) (sym (not_eq i k (let is : i ≡ j = eqb-true i j e in omega arith)))
+inlined_uses : (j k : ℕ) (body : Plain) → j < k → IsBelow j body → (query : Plain) → uses k (inlined j body query) ≡ uses k query
+inlined_uses j k body l b (scan table version) = refl
+inlined_uses j k body l b (step i) =
+    elim (i == j) as (λ c. (i == j) ≡ c → uses k (cond c body (step i)) ≡ cond (i == k) 1 0) [
+      | true ↦ λ e. unused_below j k body (omega arith) b ∙ ap (λ c. cond c 1 0) (sym (not_eq i k (let is : i ≡ j = eqb-true i j e in omega arith)))
       | false ↦ λ e. refl
     ] refl
-inlined_uses j k own l b (select query c) = inlined_uses j k own l b query
-inlined_uses j k own l b (project query exprs) = inlined_uses j k own l b query
-inlined_uses j k own l b (product x y) = λ i. inlined_uses j k own l b x i + inlined_uses j k own l b y i
-inlined_uses j k own l b (union x y) = λ i. inlined_uses j k own l b x i + inlined_uses j k own l b y i
-inlined_uses j k own l b (given rows) = refl
-inlined_uses j k own l b (publish at x y z) = λ i. inlined_uses j k own l b x i + (inlined_uses j k own l b y i + inlined_uses j k own l b z i)
+inlined_uses j k body l b (select query c) = inlined_uses j k body l b query
+inlined_uses j k body l b (project query exprs) = inlined_uses j k body l b query
+inlined_uses j k body l b (product x y) = λ i. inlined_uses j k body l b x i + inlined_uses j k body l b y i
+inlined_uses j k body l b (union x y) = λ i. inlined_uses j k body l b x i + inlined_uses j k body l b y i
+inlined_uses j k body l b (given rows) = refl
+inlined_uses j k body l b (publish at x y z) = λ i. inlined_uses j k body l b x i + (inlined_uses j k body l b y i + inlined_uses j k body l b z i)
 
-program_inlined_uses : (j k : ℕ) (own : Plain) → j < k → IsBelow j own → (steps : List PlainStep) (last : Plain) → program_uses k (map (step_inlined j own) steps) (inlined j own last) ≡ program_uses k steps last
-program_inlined_uses j k own l b [] last = inlined_uses j k own l b last
-program_inlined_uses j k own l b (s ∷ steps) last = λ i. inlined_uses j k own l b s.query i + program_inlined_uses j k own l b steps last i
+program_inlined_uses : (j k : ℕ) (body : Plain) → j < k → IsBelow j body → (steps : List PlainStep) (last : Plain) → program_uses k (map (step_inlined j body) steps) (inlined j body last) ≡ program_uses k steps last
+program_inlined_uses j k body l b [] last = inlined_uses j k body l b last
+program_inlined_uses j k body l b (s ∷ steps) last = λ i. inlined_uses j k body l b s.query i + program_inlined_uses j k body l b steps last i
 
-pub inlined_insert : (j : ℕ) (own query : Plain) → is_insert own ≡ false → is_insert (inlined j own query) ≡ is_insert query
-inlined_insert j own (step i) e = go (i == j)
+pub inlined_insert : (j : ℕ) (body query : Plain) → is_insert body ≡ false → is_insert (inlined j body query) ≡ is_insert query
+inlined_insert j body (step i) e = go (i == j)
   where
-    go : (b : Bool) → is_insert (cond b own (step i)) ≡ false
+    go : (b : Bool) → is_insert (cond b body (step i)) ≡ false
     go true = e
     go false = refl
-inlined_insert j own (scan table version) e = refl
-inlined_insert j own (select query c) e = refl
-inlined_insert j own (project query exprs) e = refl
-inlined_insert j own (product x y) e = refl
-inlined_insert j own (union x y) e = refl
-inlined_insert j own (given rows) e = refl
-inlined_insert j own (publish at x y z) e = refl
+inlined_insert j body (scan table version) e = refl
+inlined_insert j body (select query c) e = refl
+inlined_insert j body (project query exprs) e = refl
+inlined_insert j body (product x y) e = refl
+inlined_insert j body (union x y) e = refl
+inlined_insert j body (given rows) e = refl
+inlined_insert j body (publish at x y z) e = refl
 
-inlined_stay : (j : ℕ) (own : Plain) → IsBelow j own → is_insert own ≡ false → (steps : List PlainStep) (last : Plain) → AreAbove j steps → all_stay (map (step_inlined j own) steps) (inlined j own last) ≡ all_stay steps last
-inlined_stay j own b no_insert [] last a = refl
-inlined_stay j own b no_insert (s ∷ steps) last a =
-    λ i. (inlined_insert j own s.query no_insert i || nat_lt 1 (program_inlined_uses j s.j own a.0 b steps last i)) && inlined_stay j own b no_insert steps last a.1 i
+inlined_stay : (j : ℕ) (body : Plain) → IsBelow j body → is_insert body ≡ false → (steps : List PlainStep) (last : Plain) → AreAbove j steps → all_stay (map (step_inlined j body) steps) (inlined j body last) ≡ all_stay steps last
+inlined_stay j body b no_insert [] last a = refl
+inlined_stay j body b no_insert (s ∷ steps) last a =
+    λ i. (inlined_insert j body s.query no_insert i || nat_lt 1 (program_inlined_uses j s.j body a.0 b steps last i)) && inlined_stay j body b no_insert steps last a.1 i
 
 pub either_false : (a b : Bool) → (a || b) ≡ false → a ≡ false
 either_false false b e = refl

@@ -9,9 +9,9 @@ use Rattle.gp_algebra.specs.Plain.{is_insert}
 use Rattle.gp_algebra.specs.declared.plain.PQuery.{PQuery}
 use Rattle.gp_algebra.specs.declared.program.Step as code
 use Rattle.gp_algebra.specs.PlainViews.{step_view}
-use Rattle.gp_merge.specs.Merging.{uses, program_uses, inlined, stays, settled_before, settled, selected, projected, rebuilt, merged}
+use Rattle.gp_merge.specs.Merging.{uses, program_uses, inlined, stays, settled, selected, projected, rebuilt, merged}
 use Rattle.gp_merge.specs.MergingForms.{step_inlined, program_inlined, step_rebuilt, program_rebuilt}
-use Rattle.gp_merge.specs.Planning.{Plan, no_steps_planned, steps_uses, plan_uses, plan_before, planned_before, planned_onto, built_over, source_of, built, step_built, program_built}
+use Rattle.gp_merge.specs.Planning.{Plan, no_steps_planned, steps_uses, plan_uses, planned_before, planned_onto, source_of, built, step_built, program_built}
 use Rattle.gp_merge.proofs.Orders.{unequal_back, IsBelow, AreAbove, AreOrdered}
 use Rattle.gp_merge.proofs.NormalLemmas.{unused_below}
 
@@ -62,60 +62,60 @@ abbrev count_of : Bool → ℕ
 count_of b = cond b 1 0
 
 -- a step that is not used is put nowhere
-unused_inlined : (j : ℕ) (own query : Plain) → uses j query ≡ 0 → inlined j own query ≡ query
-unused_inlined j own (scan table version) none = refl
-unused_inlined j own (step i) none = go (i == j) none
+unused_inlined : (j : ℕ) (body query : Plain) → uses j query ≡ 0 → inlined j body query ≡ query
+unused_inlined j body (scan table version) none = refl
+unused_inlined j body (step i) none = go (i == j) none
   where
-    go : (b : Bool) → count_of b ≡ 0 → cond b own (step i) ≡ step i
+    go : (b : Bool) → count_of b ≡ 0 → cond b body (step i) ≡ step i
     go true e = absurd (omega (arith, e))
     go false e = refl
-unused_inlined j own (select query c) none = ap (λ q. select q c) (unused_inlined j own query none)
-unused_inlined j own (project query exprs) none = ap (λ q. project q exprs) (unused_inlined j own query none)
-unused_inlined j own (product l r) none = λ i. product (unused_inlined j own l (zero_left (uses j l) (uses j r) none) i) (unused_inlined j own r (zero_right (uses j l) (uses j r) none) i)
-unused_inlined j own (union l r) none = λ i. union (unused_inlined j own l (zero_left (uses j l) (uses j r) none) i) (unused_inlined j own r (zero_right (uses j l) (uses j r) none) i)
-unused_inlined j own (given rows) none = refl
-unused_inlined j own (publish at b m l) none =
+unused_inlined j body (select query c) none = ap (λ q. select q c) (unused_inlined j body query none)
+unused_inlined j body (project query exprs) none = ap (λ q. project q exprs) (unused_inlined j body query none)
+unused_inlined j body (product l r) none = λ i. product (unused_inlined j body l (zero_left (uses j l) (uses j r) none) i) (unused_inlined j body r (zero_right (uses j l) (uses j r) none) i)
+unused_inlined j body (union l r) none = λ i. union (unused_inlined j body l (zero_left (uses j l) (uses j r) none) i) (unused_inlined j body r (zero_right (uses j l) (uses j r) none) i)
+unused_inlined j body (given rows) none = refl
+unused_inlined j body (publish at b m l) none =
     let others : uses j m + uses j l ≡ 0 = zero_right (uses j b) (uses j m + uses j l) none in
-    λ i. publish at (unused_inlined j own b (zero_left (uses j b) (uses j m + uses j l) none) i) (unused_inlined j own m (zero_left (uses j m) (uses j l) others) i)
-    (unused_inlined j own l (zero_right (uses j m) (uses j l) others) i)
+    λ i. publish at (unused_inlined j body b (zero_left (uses j b) (uses j m + uses j l) none) i) (unused_inlined j body m (zero_left (uses j m) (uses j l) others) i)
+    (unused_inlined j body l (zero_right (uses j m) (uses j l) others) i)
 
-unused_steps : (j : ℕ) (own : Plain) (steps : List PlainStep) (last : Plain) → program_uses j steps last ≡ 0 → map (step_inlined j own) steps ≡ steps
-unused_steps j own [] last none = refl
-unused_steps j own (s ∷ steps) last none =
-    λ i. record s { query = unused_inlined j own s.query (zero_left (uses j s.query) (program_uses j steps last) none) i }
-    ∷ unused_steps j own steps last (zero_right (uses j s.query) (program_uses j steps last) none) i
+unused_steps : (j : ℕ) (body : Plain) (steps : List PlainStep) (last : Plain) → program_uses j steps last ≡ 0 → map (step_inlined j body) steps ≡ steps
+unused_steps j body [] last none = refl
+unused_steps j body (s ∷ steps) last none =
+    λ i. record s { query = unused_inlined j body s.query (zero_left (uses j s.query) (program_uses j steps last) none) i }
+    ∷ unused_steps j body steps last (zero_right (uses j s.query) (program_uses j steps last) none) i
 
-unused_last : (j : ℕ) (own : Plain) (steps : List PlainStep) (last : Plain) → program_uses j steps last ≡ 0 → inlined j own last ≡ last
-unused_last j own [] last none = unused_inlined j own last none
-unused_last j own (s ∷ steps) last none = unused_last j own steps last (zero_right (uses j s.query) (program_uses j steps last) none)
+unused_last : (j : ℕ) (body : Plain) (steps : List PlainStep) (last : Plain) → program_uses j steps last ≡ 0 → inlined j body last ≡ last
+unused_last j body [] last none = unused_inlined j body last none
+unused_last j body (s ∷ steps) last none = unused_last j body steps last (zero_right (uses j s.query) (program_uses j steps last) none)
 
 -- uses of an earlier step: its own, and one for each use in each place
 sum_of_both : (a b x y u a' b' : ℕ) → a' ≡ a + x * u → b' ≡ b + y * u → a' + b' ≡ (a + b) + (x + y) * u
 sum_of_both a b x y u a' b' e f = omega (arith, e, f)
 
-inlined_uses : (i j : ℕ) (own : Plain) → j < i → (query : Plain) → uses j (inlined i own query) ≡ uses j query + uses i query * uses j own
-inlined_uses i j own l (scan table version) = omega arith
-inlined_uses i j own l (step k) = go (k == i) refl
+inlined_uses : (i j : ℕ) (body : Plain) → j < i → (query : Plain) → uses j (inlined i body query) ≡ uses j query + uses i query * uses j body
+inlined_uses i j body l (scan table version) = omega arith
+inlined_uses i j body l (step k) = go (k == i) refl
   where
-    go : (b : Bool) → (k == i) ≡ b → uses j (cond b own (step k)) ≡ count_of (k == j) + count_of b * uses j own
+    go : (b : Bool) → (k == i) ≡ b → uses j (cond b body (step k)) ≡ count_of (k == j) + count_of b * uses j body
     go true is = let other : (k == j) ≡ false = subst (λ n. (n == j) ≡ false) (sym (eqb-true k i is)) (unequal_back j i l) in
-        let one : uses j own ≡ 0 + 1 * uses j own = omega arith in one ∙ ap (λ b. count_of b + 1 * uses j own) (sym other)
+        let one : uses j body ≡ 0 + 1 * uses j body = omega arith in one ∙ ap (λ b. count_of b + 1 * uses j body) (sym other)
     go false is = omega arith
-inlined_uses i j own l (select query c) = inlined_uses i j own l query
-inlined_uses i j own l (project query exprs) = inlined_uses i j own l query
-inlined_uses i j own l (product x y) = sum_of_both (uses j x) (uses j y) (uses i x) (uses i y) (uses j own) (uses j (inlined i own x)) (uses j (inlined i own y)) (inlined_uses i j own l x) (inlined_uses i j own l y)
-inlined_uses i j own l (union x y) = sum_of_both (uses j x) (uses j y) (uses i x) (uses i y) (uses j own) (uses j (inlined i own x)) (uses j (inlined i own y)) (inlined_uses i j own l x) (inlined_uses i j own l y)
-inlined_uses i j own l (given rows) = omega arith
-inlined_uses i j own l (publish at x y z) =
-    sum_of_both (uses j x) (uses j y + uses j z) (uses i x) (uses i y + uses i z) (uses j own) (uses j (inlined i own x)) (uses j (inlined i own y) + uses j (inlined i own z)) (inlined_uses i j own l x)
-    (sum_of_both (uses j y) (uses j z) (uses i y) (uses i z) (uses j own) (uses j (inlined i own y)) (uses j (inlined i own z)) (inlined_uses i j own l y) (inlined_uses i j own l z))
+inlined_uses i j body l (select query c) = inlined_uses i j body l query
+inlined_uses i j body l (project query exprs) = inlined_uses i j body l query
+inlined_uses i j body l (product x y) = sum_of_both (uses j x) (uses j y) (uses i x) (uses i y) (uses j body) (uses j (inlined i body x)) (uses j (inlined i body y)) (inlined_uses i j body l x) (inlined_uses i j body l y)
+inlined_uses i j body l (union x y) = sum_of_both (uses j x) (uses j y) (uses i x) (uses i y) (uses j body) (uses j (inlined i body x)) (uses j (inlined i body y)) (inlined_uses i j body l x) (inlined_uses i j body l y)
+inlined_uses i j body l (given rows) = omega arith
+inlined_uses i j body l (publish at x y z) =
+    sum_of_both (uses j x) (uses j y + uses j z) (uses i x) (uses i y + uses i z) (uses j body) (uses j (inlined i body x)) (uses j (inlined i body y) + uses j (inlined i body z)) (inlined_uses i j body l x)
+    (sum_of_both (uses j y) (uses j z) (uses i y) (uses i z) (uses j body) (uses j (inlined i body y)) (uses j (inlined i body z)) (inlined_uses i j body l y) (inlined_uses i j body l z))
 
-inlined_program_uses : (i j : ℕ) (own : Plain) → j < i → (steps : List PlainStep) (last : Plain)
-    → program_uses j (map (step_inlined i own) steps) (inlined i own last) ≡ program_uses j steps last + program_uses i steps last * uses j own
-inlined_program_uses i j own l [] last = inlined_uses i j own l last
-inlined_program_uses i j own l (s ∷ steps) last =
-    sum_of_both (uses j s.query) (program_uses j steps last) (uses i s.query) (program_uses i steps last) (uses j own) (uses j (inlined i own s.query)) (program_uses j (map (step_inlined i own) steps) (inlined i own last))
-    (inlined_uses i j own l s.query) (inlined_program_uses i j own l steps last)
+inlined_program_uses : (i j : ℕ) (body : Plain) → j < i → (steps : List PlainStep) (last : Plain)
+    → program_uses j (map (step_inlined i body) steps) (inlined i body last) ≡ program_uses j steps last + program_uses i steps last * uses j body
+inlined_program_uses i j body l [] last = inlined_uses i j body l last
+inlined_program_uses i j body l (s ∷ steps) last =
+    sum_of_both (uses j s.query) (program_uses j steps last) (uses i s.query) (program_uses i steps last) (uses j body) (uses j (inlined i body s.query)) (program_uses j (map (step_inlined i body) steps) (inlined i body last))
+    (inlined_uses i j body l s.query) (inlined_program_uses i j body l steps last)
 
 steps_uses-more : (j : ℕ) (list : List PlainStep) (s : PlainStep) → steps_uses j (list ++ s ∷ []) ≡ steps_uses j list + uses j s.query
 steps_uses-more j [] s = omega arith
@@ -175,12 +175,12 @@ module _ (last : Plain) (s : PlainStep) (others : List PlainStep) (below : IsBel
       first : let P : PlainProgram = record { steps = s ∷ S.steps; last = S.last } in P ≡ record { steps = s ∷ (program_of plan last).steps; last = (program_of plan last).last }
       first = ap (λ (p : PlainProgram). let q : PlainProgram = record { steps = s ∷ p.steps; last = p.last } in q) rest.same
 
-      own : step_filled plan.inline s ≡ s
-      own = ap (λ q. record s { query = q }) (filled_below s.j plan.inline s.query (rest.above s.j behind) below)
+      body : step_filled plan.inline s ≡ s
+      body = ap (λ q. record s { query = q }) (filled_below s.j plan.inline s.query (rest.above s.j behind) below)
 
       again : let P : PlainProgram = record { steps = s ∷ (program_of plan last).steps; last = (program_of plan last).last } in P ≡ program_of (record plan { stay = plan.stay ++ s ∷ [] }) last
       again = ap (λ list. let q : PlainProgram = record { steps = list; last = filled plan.inline last } in q)
-          (ap (λ t. t ∷ map (step_filled plan.inline) (reverse plan.stay)) (sym own) ∙ ap (map (step_filled plan.inline)) (sym (reverse-more plan.stay s)))
+          (ap (λ t. t ∷ map (step_filled plan.inline) (reverse plan.stay)) (sym body) ∙ ap (map (step_filled plan.inline)) (sym (reverse-more plan.stay s)))
 
       count : (j : ℕ) → AreAbove j (s ∷ others) → uses j s.query + program_uses j S.steps S.last ≡ plan_uses j last (record plan { stay = plan.stay ++ s ∷ [] })
       count j a =

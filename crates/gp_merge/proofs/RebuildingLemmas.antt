@@ -1,5 +1,5 @@
 -- A rebuilt query gives the same rows, and so does a merged program.
-use Rattle.std.proofs.Common.{◌≡◌, ℕ, zero, suc, ◌+◌, ◌<◌, Bool, true, false, cond, List, [], ◌∷◌, ◌++◌, length, refl, sym, ap, ◌∙◌, subst, arith, map}
+use Rattle.std.proofs.Common.{◌≡◌, ℕ, ◌+◌, Bool, true, false, cond, List, [], ◌∷◌, ◌++◌, refl, sym, ap, ◌∙◌, map}
 use Rattle.std.specs.Prelude.{◌&&◌}
 use Rattle.std.specs.List.{flat_map, filter}
 use Rattle.gp_expr.specs.Expressions as e
@@ -12,7 +12,7 @@ use Rattle.gp_expr.proofs.SubstitutionLemmas.{values_substituted}
 use Rattle.gp_base.specs.declared.cell.Cell.{Cell}
 use Rattle.gp_expr.specs.Values.{passes}
 use Rattle.gp_algebra.specs.Answers.{values}
-use Rattle.gp_algebra.specs.Plain.{Plain, scan, step, select, project, product, union, given, publish, PlainStep, PlainProgram, PlainEnvironment, StepRows, meaning, steps_meaning, program_meaning, with_step, no_steps, published_onto}
+use Rattle.gp_algebra.specs.Plain.{Plain, scan, step, select, project, product, union, given, publish, PlainStep, PlainProgram, PlainEnvironment, meaning, steps_meaning, program_meaning, with_step, no_steps, published_onto}
 use Rattle.gp_merge.specs.Merging.{is_small, selected, projected, rebuilt, merged, settled}
 use Rattle.gp_merge.specs.MergingForms.{step_rebuilt}
 use Rattle.gp_merge.proofs.Orders.{AreOrdered}

@@ -1,7 +1,6 @@
 -- A merged program scans no table and version that the program does not.
-use Rattle.std.proofs.Common.{◌≡◌, ℕ, Bool, true, false, cond, List, [], ◌∷◌, ◌++◌, ◌⊎◌, inl, inr, refl, sym, ap, ◌∙◌, subst, map}
+use Rattle.std.proofs.Common.{◌≡◌, ℕ, Bool, true, false, cond, List, [], ◌∷◌, ◌++◌, ◌⊎◌, inl, inr, refl, ◌∙◌, subst, map}
 use Rattle.std.specs.Prelude.{◌==◌, Contains}
-use Rattle.std.specs.List.{flat_map}
 use Rattle.std.proofs.lemmas.List.Elements.{Contains-append_cases, Contains-append_left, Contains-append_right}
 use Rattle.gp_expr.specs.Expressions.{Expr, Cond}
 use Rattle.gp_expr.specs.Substitution.{substituted_each}
@@ -9,7 +8,7 @@ use Rattle.gp_algebra.specs.declared.plain.ScanAt.{ScanAt}
 use Rattle.gp_algebra.specs.Plain.{Plain, scan, step, select, project, product, union, given, publish, PlainStep, PlainProgram}
 use Rattle.gp_algebra.specs.Scans.{query_scans, steps_scans, program_scans}
 use Rattle.gp_merge.specs.Merging.{inlined, stays, settled, is_small, selected, projected, rebuilt, merged}
-use Rattle.gp_merge.specs.MergingForms.{step_inlined, program_inlined, step_rebuilt, program_rebuilt}
+use Rattle.gp_merge.specs.MergingForms.{step_inlined, program_inlined, step_rebuilt}
 
 -- ---- rebuilt queries scan the same
 
@@ -60,29 +59,29 @@ module _ (at : ScanAt) where
       go (inl there) = first (left there)
       go (inr there) = second (right there)
 
-  inlined_scans : (j : ℕ) (own query : Plain) → Contains (query_scans (inlined j own query)) at → Contains (query_scans query) at ⊎ Contains (query_scans own) at
-  inlined_scans j own (scan table version) among = inl among
-  inlined_scans j own (step i) among = go (i == j) among
+  inlined_scans : (j : ℕ) (body query : Plain) → Contains (query_scans (inlined j body query)) at → Contains (query_scans query) at ⊎ Contains (query_scans body) at
+  inlined_scans j body (scan table version) among = inl among
+  inlined_scans j body (step i) among = go (i == j) among
     where
-      go : (b : Bool) → Contains (query_scans (cond b own (step i))) at → Contains (query_scans (step i)) at ⊎ Contains (query_scans own) at
+      go : (b : Bool) → Contains (query_scans (cond b body (step i))) at → Contains (query_scans (step i)) at ⊎ Contains (query_scans body) at
       go true there = inr there
       go false there = inl there
-  inlined_scans j own (select query c) among = inlined_scans j own query among
-  inlined_scans j own (project query exprs) among = inlined_scans j own query among
-  inlined_scans j own (product l r) among =
-      both_lists (Contains (query_scans own) at) (query_scans l) (query_scans r) (query_scans (inlined j own l)) (query_scans (inlined j own r)) (inlined_scans j own l) (inlined_scans j own r) among
-  inlined_scans j own (union l r) among =
-      both_lists (Contains (query_scans own) at) (query_scans l) (query_scans r) (query_scans (inlined j own l)) (query_scans (inlined j own r)) (inlined_scans j own l) (inlined_scans j own r) among
-  inlined_scans j own (given rows) among = inl among
-  inlined_scans j own (publish n b m l) among =
-      both_lists (Contains (query_scans own) at) (query_scans b) (query_scans m ++ query_scans l) (query_scans (inlined j own b)) (query_scans (inlined j own m) ++ query_scans (inlined j own l)) (inlined_scans j own b)
-      (both_lists (Contains (query_scans own) at) (query_scans m) (query_scans l) (query_scans (inlined j own m)) (query_scans (inlined j own l)) (inlined_scans j own m) (inlined_scans j own l)) among
+  inlined_scans j body (select query c) among = inlined_scans j body query among
+  inlined_scans j body (project query exprs) among = inlined_scans j body query among
+  inlined_scans j body (product l r) among =
+      both_lists (Contains (query_scans body) at) (query_scans l) (query_scans r) (query_scans (inlined j body l)) (query_scans (inlined j body r)) (inlined_scans j body l) (inlined_scans j body r) among
+  inlined_scans j body (union l r) among =
+      both_lists (Contains (query_scans body) at) (query_scans l) (query_scans r) (query_scans (inlined j body l)) (query_scans (inlined j body r)) (inlined_scans j body l) (inlined_scans j body r) among
+  inlined_scans j body (given rows) among = inl among
+  inlined_scans j body (publish n b m l) among =
+      both_lists (Contains (query_scans body) at) (query_scans b) (query_scans m ++ query_scans l) (query_scans (inlined j body b)) (query_scans (inlined j body m) ++ query_scans (inlined j body l)) (inlined_scans j body b)
+      (both_lists (Contains (query_scans body) at) (query_scans m) (query_scans l) (query_scans (inlined j body m)) (query_scans (inlined j body l)) (inlined_scans j body m) (inlined_scans j body l)) among
 
-  steps_inlined_scans : (j : ℕ) (own : Plain) (steps : List PlainStep) → Contains (steps_scans (map (step_inlined j own) steps)) at → Contains (steps_scans steps) at ⊎ Contains (query_scans own) at
-  steps_inlined_scans j own [] among = inl among
-  steps_inlined_scans j own (s ∷ steps) among =
-      both_lists (Contains (query_scans own) at) (query_scans s.query) (steps_scans steps) (query_scans (inlined j own s.query)) (steps_scans (map (step_inlined j own) steps))
-      (inlined_scans j own s.query) (steps_inlined_scans j own steps) among
+  steps_inlined_scans : (j : ℕ) (body : Plain) (steps : List PlainStep) → Contains (steps_scans (map (step_inlined j body) steps)) at → Contains (steps_scans steps) at ⊎ Contains (query_scans body) at
+  steps_inlined_scans j body [] among = inl among
+  steps_inlined_scans j body (s ∷ steps) among =
+      both_lists (Contains (query_scans body) at) (query_scans s.query) (steps_scans steps) (query_scans (inlined j body s.query)) (steps_scans (map (step_inlined j body) steps))
+      (inlined_scans j body s.query) (steps_inlined_scans j body steps) among
 
   settled_scans : (steps : List PlainStep) (last : Plain) → Contains (program_scans (settled steps last)) at → Contains (steps_scans steps ++ query_scans last) at
   settled_scans [] last among = among
@@ -91,42 +90,42 @@ module _ (at : ScanAt) where
       S : PlainProgram
       S = settled steps last
 
-      own : List ScanAt
-      own = query_scans s.query
+      body : List ScanAt
+      body = query_scans s.query
 
       -- among those of this step, or of the others and the last query
-      placed : Contains own at ⊎ Contains (steps_scans steps ++ query_scans last) at → Contains ((own ++ steps_scans steps) ++ query_scans last) at
-      placed (inl there) = Contains-append_left (own ++ steps_scans steps) (query_scans last) at (Contains-append_left own (steps_scans steps) at there)
+      placed : Contains body at ⊎ Contains (steps_scans steps ++ query_scans last) at → Contains ((body ++ steps_scans steps) ++ query_scans last) at
+      placed (inl there) = Contains-append_left (body ++ steps_scans steps) (query_scans last) at (Contains-append_left body (steps_scans steps) at there)
       placed (inr there) = later (Contains-append_cases (steps_scans steps) (query_scans last) at there)
         where
-          later : Contains (steps_scans steps) at ⊎ Contains (query_scans last) at → Contains ((own ++ steps_scans steps) ++ query_scans last) at
-          later (inl there) = Contains-append_left (own ++ steps_scans steps) (query_scans last) at (Contains-append_right own (steps_scans steps) at there)
-          later (inr there) = Contains-append_right (own ++ steps_scans steps) (query_scans last) at there
+          later : Contains (steps_scans steps) at ⊎ Contains (query_scans last) at → Contains ((body ++ steps_scans steps) ++ query_scans last) at
+          later (inl there) = Contains-append_left (body ++ steps_scans steps) (query_scans last) at (Contains-append_right body (steps_scans steps) at there)
+          later (inr there) = Contains-append_right (body ++ steps_scans steps) (query_scans last) at there
 
-      stayed : (Contains (program_scans S) at → Contains (steps_scans steps ++ query_scans last) at) → Contains ((own ++ steps_scans S.steps) ++ query_scans S.last) at
-          → Contains own at ⊎ Contains (steps_scans steps ++ query_scans last) at
-      stayed rest among = outer (Contains-append_cases (own ++ steps_scans S.steps) (query_scans S.last) at among)
+      stayed : (Contains (program_scans S) at → Contains (steps_scans steps ++ query_scans last) at) → Contains ((body ++ steps_scans S.steps) ++ query_scans S.last) at
+          → Contains body at ⊎ Contains (steps_scans steps ++ query_scans last) at
+      stayed rest among = outer (Contains-append_cases (body ++ steps_scans S.steps) (query_scans S.last) at among)
         where
-          inner : Contains own at ⊎ Contains (steps_scans S.steps) at → Contains own at ⊎ Contains (steps_scans steps ++ query_scans last) at
+          inner : Contains body at ⊎ Contains (steps_scans S.steps) at → Contains body at ⊎ Contains (steps_scans steps ++ query_scans last) at
           inner (inl there) = inl there
           inner (inr there) = inr (rest (Contains-append_left (steps_scans S.steps) (query_scans S.last) at there))
 
-          outer : Contains (own ++ steps_scans S.steps) at ⊎ Contains (query_scans S.last) at → Contains own at ⊎ Contains (steps_scans steps ++ query_scans last) at
-          outer (inl there) = inner (Contains-append_cases own (steps_scans S.steps) at there)
+          outer : Contains (body ++ steps_scans S.steps) at ⊎ Contains (query_scans S.last) at → Contains body at ⊎ Contains (steps_scans steps ++ query_scans last) at
+          outer (inl there) = inner (Contains-append_cases body (steps_scans S.steps) at there)
           outer (inr there) = inr (rest (Contains-append_right (steps_scans S.steps) (query_scans S.last) at there))
 
       put : (Contains (program_scans S) at → Contains (steps_scans steps ++ query_scans last) at) → Contains (program_scans (program_inlined s.j s.query S)) at
-          → Contains own at ⊎ Contains (steps_scans steps ++ query_scans last) at
+          → Contains body at ⊎ Contains (steps_scans steps ++ query_scans last) at
       put rest among =
-          turned (both_lists (Contains own at) (steps_scans S.steps) (query_scans S.last) (steps_scans (map (step_inlined s.j s.query) S.steps)) (query_scans (inlined s.j s.query S.last))
+          turned (both_lists (Contains body at) (steps_scans S.steps) (query_scans S.last) (steps_scans (map (step_inlined s.j s.query) S.steps)) (query_scans (inlined s.j s.query S.last))
           (steps_inlined_scans s.j s.query S.steps) (inlined_scans s.j s.query S.last) among)
         where
-          turned : Contains (program_scans S) at ⊎ Contains own at → Contains own at ⊎ Contains (steps_scans steps ++ query_scans last) at
+          turned : Contains (program_scans S) at ⊎ Contains body at → Contains body at ⊎ Contains (steps_scans steps ++ query_scans last) at
           turned (inl there) = inr (rest there)
           turned (inr there) = inl there
 
       go : (Contains (program_scans S) at → Contains (steps_scans steps ++ query_scans last) at) → (b : Bool)
-          → Contains (program_scans (cond b (record S { steps = s ∷ S.steps }) (program_inlined s.j s.query S))) at → Contains ((own ++ steps_scans steps) ++ query_scans last) at
+          → Contains (program_scans (cond b (record S { steps = s ∷ S.steps }) (program_inlined s.j s.query S))) at → Contains ((body ++ steps_scans steps) ++ query_scans last) at
       go rest true among = placed (stayed rest among)
       go rest false among = placed (put rest among)
 

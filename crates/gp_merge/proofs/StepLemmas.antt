@@ -1,16 +1,14 @@
 -- A merged program keeps its INSERT steps, their numbers and their rows, and stops where the program does.
-use Rattle.std.proofs.Common.{◌≡◌, ℕ, zero, suc, ◌+◌, ◌<◌, Bool, true, false, cond, List, [], ◌∷◌, ◌++◌, length, refl, sym, ap, ◌∙◌, subst, arith, map}
+use Rattle.std.proofs.Common.{◌≡◌, ℕ, ◌<◌, Bool, true, false, cond, List, [], ◌∷◌, length, refl, sym, ap, ◌∙◌, subst, arith, map}
 use Rattle.std.specs.Prelude.{◌||◌, ◌==◌, nat_lt, Option, Some, None}
 use Rattle.std.specs.List.{list_any}
 use Rattle.gp_expr.specs.LargeValues.{is_large}
 use Rattle.gp_base.specs.declared.cell.Cell.{Cell}
-use Rattle.gp_expr.specs.Values.{passes}
-use Rattle.gp_algebra.specs.Answers.{values}
-use Rattle.gp_algebra.specs.Plain.{Plain, scan, step, select, project, product, union, given, publish, PlainStep, PlainProgram, PlainEnvironment, StepRows, meaning, steps_meaning, program_meaning, with_step, no_steps, published_onto}
+use Rattle.gp_algebra.specs.Plain.{Plain, PlainStep, PlainProgram, PlainEnvironment, meaning, steps_meaning, with_step, no_steps}
 use Rattle.gp_algebra.specs.Stops as stops
 use Rattle.gp_algebra.specs.Stops.{Stop, first_stop, steps_stop, program_stop}
 use Rattle.gp_algebra.specs.Plain.{is_insert}
-use Rattle.gp_merge.specs.Merging.{inlined, stays, settled, rebuilt, merged}
+use Rattle.gp_merge.specs.Merging.{inlined, stays, settled, merged}
 use Rattle.gp_merge.specs.MergingForms.{insert_numbers, step_inlined, program_inlined, step_rebuilt}
 use Rattle.gp_algebra.specs.WellBuilt.{is_among}
 use Rattle.std.proofs.lemmas.Bool.{false≢true, eqb-true}
@@ -22,9 +20,9 @@ use Rattle.gp_base.proofs.SmallLemmas.{not_eq}
 
 -- ---- INSERT steps keep their numbers and their held
 
-inlined_inserts : (j : ℕ) (own : Plain) → is_insert own ≡ false → (steps : List PlainStep) → insert_numbers (map (step_inlined j own) steps) ≡ insert_numbers steps
-inlined_inserts j own e [] = refl
-inlined_inserts j own e (s ∷ steps) = λ i. cond (inlined_insert j own s.query e i) (s.j ∷ inlined_inserts j own e steps i) (inlined_inserts j own e steps i)
+inlined_inserts : (j : ℕ) (body : Plain) → is_insert body ≡ false → (steps : List PlainStep) → insert_numbers (map (step_inlined j body) steps) ≡ insert_numbers steps
+inlined_inserts j body e [] = refl
+inlined_inserts j body e (s ∷ steps) = λ i. cond (inlined_insert j body s.query e i) (s.j ∷ inlined_inserts j body e steps i) (inlined_inserts j body e steps i)
 
 pub settled_inserts : (steps : List PlainStep) (last : Plain) → insert_numbers (settled steps last).steps ≡ insert_numbers steps
 settled_inserts [] last = refl
@@ -102,22 +100,22 @@ module _ (most_rows most_nodes : ℕ) (env : PlainEnvironment) where
   abbrev stopped : Bool → ℕ → List (List Cell) → Option Stop
   stopped insert j value = cond insert (cond (nat_lt most_rows (length value)) (Some (stops.rows j)) (cond (list_any (list_any (is_large most_nodes)) value) (Some (stops.ancestry j)) None)) None
 
-  inlined_stops : (j : ℕ) (own : Plain) → IsBelow j own → is_insert own ≡ false → (steps : List PlainStep) → AreAbove j steps → (held : ℕ → List (List Cell)) →
-      steps_stop most_rows most_nodes env (map (step_inlined j own) steps) held ≡ steps_stop most_rows most_nodes env steps (with_step j (meaning held env own) held)
-  inlined_stops j own below no_insert [] above held = refl
-  inlined_stops j own below no_insert (s ∷ steps) above held =
-      (λ i. first_stop (stopped (inlined_insert j own s.query no_insert i) s.j (inlined_is env held j own s.query i)) (steps_stop most_rows most_nodes env (map (step_inlined j own) steps) next))
-      ∙ ap (first_stop (stopped (is_insert s.query) s.j (meaning (with_step j (meaning held env own) held) env s.query))) (inlined_stops j own below no_insert steps above.1 next ∙ ap (steps_stop most_rows most_nodes env steps) (sym same))
+  inlined_stops : (j : ℕ) (body : Plain) → IsBelow j body → is_insert body ≡ false → (steps : List PlainStep) → AreAbove j steps → (held : ℕ → List (List Cell)) →
+      steps_stop most_rows most_nodes env (map (step_inlined j body) steps) held ≡ steps_stop most_rows most_nodes env steps (with_step j (meaning held env body) held)
+  inlined_stops j body below no_insert [] above held = refl
+  inlined_stops j body below no_insert (s ∷ steps) above held =
+      (λ i. first_stop (stopped (inlined_insert j body s.query no_insert i) s.j (inlined_is env held j body s.query i)) (steps_stop most_rows most_nodes env (map (step_inlined j body) steps) next))
+      ∙ ap (first_stop (stopped (is_insert s.query) s.j (meaning (with_step j (meaning held env body) held) env s.query))) (inlined_stops j body below no_insert steps above.1 next ∙ ap (steps_stop most_rows most_nodes env steps) (sym same))
     where
       next : ℕ → List (List Cell)
-      next = with_step s.j (meaning held env (inlined j own s.query)) held
+      next = with_step s.j (meaning held env (inlined j body s.query)) held
 
-      kept : meaning held env own ≡ meaning next env own
-      kept = below_is env j held next (λ i l. sym (other_value env s.j i (meaning held env (inlined j own s.query)) held (let a : j < s.j = above.0 in omega arith))) own below
+      kept : meaning held env body ≡ meaning next env body
+      kept = below_is env j held next (λ i l. sym (other_value env s.j i (meaning held env (inlined j body s.query)) held (let a : j < s.j = above.0 in omega arith))) body below
 
-      same : with_step s.j (meaning (with_step j (meaning held env own) held) env s.query) (with_step j (meaning held env own) held)
-          ≡ with_step j (meaning next env own) next
-      same = λ i n. ((ap (λ x. with_step s.j x (with_step j (meaning held env own) held) n) (sym (inlined_is env held j own s.query))) ∙ swapped_values env j s.j (meaning held env own) (meaning held env (inlined j own s.query)) held above.0 n ∙ ap (λ x. with_step j x next n) kept) i
+      same : with_step s.j (meaning (with_step j (meaning held env body) held) env s.query) (with_step j (meaning held env body) held)
+          ≡ with_step j (meaning next env body) next
+      same = λ i n. ((ap (λ x. with_step s.j x (with_step j (meaning held env body) held) n) (sym (inlined_is env held j body s.query))) ∙ swapped_values env j s.j (meaning held env body) (meaning held env (inlined j body s.query)) held above.0 n ∙ ap (λ x. with_step j x next n) kept) i
 
   settled_stops : (steps : List PlainStep) (last : Plain) → AreOrdered steps → (held : ℕ → List (List Cell)) → steps_stop most_rows most_nodes env (settled steps last).steps held ≡ steps_stop most_rows most_nodes env steps held
   settled_stops [] last o held = refl

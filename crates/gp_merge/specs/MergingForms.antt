@@ -26,10 +26,10 @@ total_size (expr ∷ others) = size expr + total_size others
 
 -- steps and programs with a query in the place of step j, and with queries rebuilt from their leaves
 abbrev pub step_inlined : ℕ → Plain → PlainStep → PlainStep
-step_inlined j own s = record s { query = inlined j own s.query }
+step_inlined j body s = record s { query = inlined j body s.query }
 
 abbrev pub program_inlined : ℕ → Plain → PlainProgram → PlainProgram
-program_inlined j own = with_queries (inlined j own)
+program_inlined j body = with_queries (inlined j body)
 
 abbrev pub step_rebuilt : PlainStep → PlainStep
 step_rebuilt s = record s { query = rebuilt s.query }

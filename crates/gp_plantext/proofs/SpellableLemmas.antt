@@ -1,12 +1,9 @@
 -- Lemmas of the tests of programs.
-use Rattle.std.proofs.Common.{◌≡◌, ℕ, Bool, true, false, leb, eqb, List, [], ◌∷◌, length, map, Result, Ok, Err, MatchResult, is_ok, refl, ap, sym, ◌∙◌, arith}
+use Rattle.std.proofs.Common.{◌≡◌, ℕ, Bool, true, false, leb, eqb, List, [], ◌∷◌, length, map, refl, ap, sym, ◌∙◌}
 use Rattle.std.specs.Prelude.{◌&&◌}
-use Rattle.std.specs.Str.{IsUtf8, IsValidUpTo}
-use Rattle.std.specs.Str.Lossy.{utf8_valid_len}
-use Rattle.std.proofs.lemmas.Str.{utf8_valid_len-IsUtf8, utf8_valid_len-IsValidUpTo}
 use Rattle.std.specs.List.{list_all}
 use Rattle.std.specs.FinMap.{is_sorted}
-use Rattle.std.proofs.lemmas.Bool.{and_from, le-leb, eq-eqb, ne_eqb}
+use Rattle.std.proofs.lemmas.Bool.{and_from, le-leb}
 use Rattle.gp_base.specs.declared.token.Token.{Token}
 use Rattle.gp_base.specs.declared.token.Token.TheVariants.{Inserted, Queried, Updated}
 use Rattle.gp_base.specs.Tokens.{Monomial, token_cmp, greatest_count, is_token, is_u32}

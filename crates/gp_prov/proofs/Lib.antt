@@ -4,5 +4,4 @@ pub mod ColumnLemmas
 pub mod ColumnLists
 pub mod MeaningLemmas
 pub mod Pairs
-pub mod QuerySizes
 pub mod RowLemmas

@@ -1,6 +1,6 @@
 -- Of the contract of `to_plain` and of the law `plain_programs_mean_the_annotated`: a program of the annotated algebra as one of the plain algebra, which
 -- carries identities, marks and monomials in columns of its own. Where a query's expressions read user columns, they read them where they stand between those.
-use Rattle.std.specs.Prelude.{ℕ, zero, suc, ◌+◌, Bool, true, false, List, [], ◌∷◌, ◌++◌, length, map, sum, Option, Some, None}
+use Rattle.std.specs.Prelude.{ℕ, suc, ◌+◌, Bool, true, false, List, [], ◌∷◌, ◌++◌, length, map, sum, Option, Some, None}
 use Rattle.gp_base.specs.declared.cell.Cell.TheVariants as cell
 use Rattle.gp_base.specs.declared.token.Token.TheVariants.{Queried}
 use Rattle.gp_base.specs.Annotated.{monomials}

@@ -12,16 +12,6 @@ use crate::numbers::add;
 use gp_base::{Cell, Monomial, NoMemory, Row, RowId, Sequence, Token};
 use std::alloc::Global;
 
-/// The identity of a row of a VALUES list.
-fn given_id(alloc: Global, t: u32, k: u32, n: u32) -> RowId
-    ensures { result ≡ identity t k n no_sources }
-{
-    match RowId::new(t, k, n, Vec::new(alloc)) {
-        Some(id) => id,
-        None => unreachable!(),
-    }
-}
-
 /// Row n of a VALUES list with its system columns.
 fn given_row(
     alloc: Global,
@@ -39,7 +29,7 @@ fn given_row(
     }) }
 {
     let mut row = cells.clone()?;
-    row.push(Cell::Id(given_id(alloc, t, k, n)))?;
+    row.push(Cell::Id(RowId::given(alloc, t, k, n)))?;
     row.push(Cell::Mark(true))?;
     if with_prov {
         row.push(Cell::Mono(Monomial::of(alloc, Token::Inserted { t, k, n })))?;

@@ -7,14 +7,15 @@ use Rattle.std.proofs.lemmas.Bool.{false≢true, eqb-true}
 use Rattle.gp_base.specs.declared.cell.Cell.{Cell}
 use Rattle.gp_base.specs.declared.table.Table.{Table}
 use Rattle.gp_base.specs.UserCells.{is_user_cell}
-use Rattle.gp_expr.specs.Expressions.{Expr, Cond}
-use Rattle.gp_expr.specs.ExpressionForms.{is_simple, cond_is_simple, all_leaves, cond_all_leaves}
+use Rattle.gp_expr.specs.Expressions.{Cond}
+use Rattle.gp_expr.specs.ExpressionForms.{is_simple, cond_is_simple, cond_all_leaves}
 use Rattle.gp_algebra.specs.Statements.{SetExpr, Branch, Select, insert, insert_select, update, delete}
 use Rattle.gp_algebra.specs.Fitting.{is_countable, is_there, is_column, joined_width, expr_fits, cond_fits, optional_cond_fits, row_fits, set_fits, branch_fits, branches_fit, select_width, select_fits, statement_fits}
 use Rattle.gp_algebra.specs.Statements.{width_of}
 use Rattle.gp_algebra.specs.Simple.{where_is_simple}
 use Rattle.gp_rewrite.proofs.Each.{each_passes}
 use Rattle.gp_base.proofs.SmallLemmas.{all_weaker, left_true, right_true}
+use Rattle.gp_algebra.proofs.SimpleLemmas.{expr-simple}
 
 -- a branch that gives rows of this width
 pub record IsFit (width : ℕ) (branch : Branch) : Type 0 where
@@ -29,9 +30,6 @@ pub record IsFit (width : ℕ) (branch : Branch) : Type 0 where
 abbrev pub AreFit : ℕ → Select → Type 0
 AreFit width [] = ⊥
 AreFit width (branch ∷ branches) = IsFit width branch × AllByRecursion (IsFit width) branches
-
-expr_simple : (width : ℕ) (e : Expr) → expr_fits width e ≡ true → is_simple e ≡ true
-expr_simple width e fits = left_true (is_simple e) (all_leaves (is_column width) is_user_cell e) fits
 
 cond_simple : (width : ℕ) (c : Cond) → cond_fits width c ≡ true → cond_is_simple c ≡ true
 cond_simple width c fits = left_true (cond_is_simple c) (cond_all_leaves (is_column width) is_user_cell c) fits
@@ -57,7 +55,7 @@ module _ (catalogue : List Table) where
         others = head.1;
         from = head.2;
         items = eqb-true (length branch.items) width (left_true (length branch.items == width) last alike);
-        simple = all_weaker (expr_fits inner) is_simple (expr_simple inner) branch.items (left_true items (optional_cond_fits inner branch.cond) ends);
+        simple = all_weaker (expr_fits inner) is_simple (expr-simple inner) branch.items (left_true items (optional_cond_fits inner branch.cond) ends);
         condition = where_simple inner branch.cond (right_true items (optional_cond_fits inner branch.cond) ends);
       }
     where
@@ -94,7 +92,7 @@ module _ (catalogue : List Table) where
   pub sets_are_simple : (table : ℕ) (sets : List SetExpr) (c : Cond) → statement_fits catalogue (update table sets c) ≡ true → list_all (λ (set : SetExpr). is_simple set.expr) sets ≡ true
   sets_are_simple table sets c fits =
       let width = width_of catalogue table in
-      all_weaker (set_fits width) (λ (set : SetExpr). is_simple set.expr) (λ set e. expr_simple width set.expr (right_true (is_column width set.col) (expr_fits width set.expr) e)) sets
+      all_weaker (set_fits width) (λ (set : SetExpr). is_simple set.expr) (λ set e. expr-simple width set.expr (right_true (is_column width set.col) (expr_fits width set.expr) e)) sets
       (left_true (list_all (set_fits width) sets) (cond_fits width c) (right_true (is_there catalogue table) (list_all (set_fits width) sets && cond_fits width c) fits))
 
   pub update_is_simple : (table : ℕ) (sets : List SetExpr) (c : Cond) → statement_fits catalogue (update table sets c) ≡ true → cond_is_simple c ≡ true

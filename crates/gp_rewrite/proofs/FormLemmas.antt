@@ -86,12 +86,12 @@ module _ (catalogue : List Table) (of_step : ℕ → ℕ) (tables : ℕ → Quer
 
   -- a rewritten statement is a step of the table that it writes
   pub rewritten_step : (t k table : ℕ) (statement : Statement) → statement_fits catalogue statement ≡ true → target statement ≡ Some table → IsOf t k statement table
-  rewritten_step t k table (insert own rows) fits e =
-      subst (IsOf t k (insert own rows)) (same_Some own table e) (are own, rows_are_wide (width_of catalogue) of_step (width_of catalogue own) rows (given_are_wide catalogue own rows fits))
-  rewritten_step t k table (insert_select own select) fits e =
-      subst (IsOf t k (insert_select own select)) (same_Some own table e) (are own, made_new (width_of catalogue) of_step tables are t k own select (inserted_are_fit catalogue own select fits))
-  rewritten_step t k table (update own sets c) fits e = subst (IsOf t k (update own sets c)) (same_Some own table e) (are own, updated_long sets c 0 (width_of catalogue own))
-  rewritten_step t k table (delete own c) fits e = subst (IsOf t k (delete own c)) (same_Some own table e) (are own)
+  rewritten_step t k table (insert written rows) fits e =
+      subst (IsOf t k (insert written rows)) (same_Some written table e) (are written, rows_are_wide (width_of catalogue) of_step (width_of catalogue written) rows (given_are_wide catalogue written rows fits))
+  rewritten_step t k table (insert_select written select) fits e =
+      subst (IsOf t k (insert_select written select)) (same_Some written table e) (are written, made_new (width_of catalogue) of_step tables are t k written select (inserted_are_fit catalogue written select fits))
+  rewritten_step t k table (update written sets c) fits e = subst (IsOf t k (update written sets c)) (same_Some written table e) (are written, updated_long sets c 0 (width_of catalogue written))
+  rewritten_step t k table (delete written c) fits e = subst (IsOf t k (delete written c)) (same_Some written table e) (are written)
   rewritten_step t k table (read select) fits e = absurd (none-some table e)
 
   -- a query is an answer

@@ -73,16 +73,16 @@ module _ {M : Type 0} (domain : Annotations M) (monoid : IsMonoid domain) (steps
     Means t k statement table = meaning domain steps env (rewritten (width_of catalogue) t k statement tables) ≡ map (scanned domain) (step domain t k statement db table)
 
     pub rewritten_is : (t k table : ℕ) (statement : Statement) → statement_fits catalogue statement ≡ true → target statement ≡ Some table → Means t k statement table
-    rewritten_is t k table (insert own rows) fits e = subst (Means t k (insert own rows)) (same_Some own table e) (appended own (given_from domain t k 1 rows))
-    rewritten_is t k table (insert_select own select) fits e =
-        subst (Means t k (insert_select own select)) (same_Some own table e)
-        (ap (λ rows. meaning domain steps env (tables own) ++ rows) (made_is t k (width_of catalogue own) select (inserted_are_fit catalogue own select fits)) ∙ appended own (map (made domain t k) (answer domain select db)))
-    rewritten_is t k table (update own sets c) fits e =
-        subst (Means t k (update own sets c)) (same_Some own table e)
-        (update_query_is domain steps env (width_of catalogue own) t k sets c (tables own) (db own) (are own) (wide own) ∙ ap (map (scanned domain)) (sym (in_table own (map (changed domain t k sets c) (db own)))))
-    rewritten_is t k table (delete own c) fits e =
-        subst (Means t k (delete own c)) (same_Some own table e)
-        (delete_query_is domain steps env c (tables own) (db own) (are own) ∙ ap (map (scanned domain)) (sym (in_table own (filter (λ row. not (passes c row.cells)) (db own)))))
+    rewritten_is t k table (insert written rows) fits e = subst (Means t k (insert written rows)) (same_Some written table e) (appended written (given_from domain t k 1 rows))
+    rewritten_is t k table (insert_select written select) fits e =
+        subst (Means t k (insert_select written select)) (same_Some written table e)
+        (ap (λ rows. meaning domain steps env (tables written) ++ rows) (made_is t k (width_of catalogue written) select (inserted_are_fit catalogue written select fits)) ∙ appended written (map (made domain t k) (answer domain select db)))
+    rewritten_is t k table (update written sets c) fits e =
+        subst (Means t k (update written sets c)) (same_Some written table e)
+        (update_query_is domain steps env (width_of catalogue written) t k sets c (tables written) (db written) (are written) (wide written) ∙ ap (map (scanned domain)) (sym (in_table written (map (changed domain t k sets c) (db written)))))
+    rewritten_is t k table (delete written c) fits e =
+        subst (Means t k (delete written c)) (same_Some written table e)
+        (delete_query_is domain steps env c (tables written) (db written) (are written) ∙ ap (map (scanned domain)) (sym (in_table written (filter (λ row. not (passes c row.cells)) (db written)))))
     rewritten_is t k table (read select) fits e = absurd (none-some table e)
 
   -- ---- queries

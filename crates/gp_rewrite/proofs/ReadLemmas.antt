@@ -43,8 +43,8 @@ module _ (earlier : List ℕ) (tables : ℕ → Query) (are : (table : ℕ) → 
   made_reads t k (branch ∷ branches) = made_onto_reads t k 2 branches (q.new_rows t k 1 (branch_of tables branch)) (branch_reads branch)
 
   pub rewritten_reads : (columns : ℕ → ℕ) (t k : ℕ) (statement : Statement) → reads_only earlier (rewritten columns t k statement tables) ≡ true
-  rewritten_reads columns t k (insert own rows) = and_from (reads_only earlier (tables own)) true (are own) refl
-  rewritten_reads columns t k (insert_select own select) = and_from (reads_only earlier (tables own)) (reads_only earlier (made_of t k tables select)) (are own) (made_reads t k select)
-  rewritten_reads columns t k (update own sets c) = are own
-  rewritten_reads columns t k (delete own c) = are own
+  rewritten_reads columns t k (insert written rows) = and_from (reads_only earlier (tables written)) true (are written) refl
+  rewritten_reads columns t k (insert_select written select) = and_from (reads_only earlier (tables written)) (reads_only earlier (made_of t k tables select)) (are written) (made_reads t k select)
+  rewritten_reads columns t k (update written sets c) = are written
+  rewritten_reads columns t k (delete written c) = are written
   rewritten_reads columns t k (read select) = refl

@@ -96,15 +96,15 @@ module _ (tables : ℕ → Query) (are : (table : ℕ) → is_sound (tables tabl
     made_sound width (branch ∷ branches) fit = made_onto_sound 2 width branches (q.new_rows t k 1 (branch_of tables branch)) (omega arith) (new_sound 1 width branch (omega arith) fit.0) fit.1
 
     pub rewritten_sound : (catalogue : List Table) (statement : Statement) → statement_fits catalogue statement ≡ true → is_sound (rewritten (width_of catalogue) t k statement tables) ≡ true
-    rewritten_sound catalogue (insert own rows) fits =
-        and_from (is_sound (tables own)) (nat_lt 0 t && (nat_lt 0 k && nat_lt (length rows) (2 ^ 32))) (are own)
+    rewritten_sound catalogue (insert written rows) fits =
+        and_from (is_sound (tables written)) (nat_lt 0 t && (nat_lt 0 k && nat_lt (length rows) (2 ^ 32))) (are written)
         (and_from (nat_lt 0 t) (nat_lt 0 k && nat_lt (length rows) (2 ^ 32)) (above_zero t some_transaction)
-        (and_from (nat_lt 0 k) (nat_lt (length rows) (2 ^ 32)) (above_zero k some_statement) (given_are_few catalogue own rows fits)))
-    rewritten_sound catalogue (insert_select own select) fits =
-        and_from (is_sound (tables own)) (is_sound (made_of t k tables select)) (are own) (made_sound (width_of catalogue own) select (inserted_are_fit catalogue own select fits))
-    rewritten_sound catalogue (update own sets c) fits =
-        and_from (is_sound (tables own)) (list_all is_simple (updated_from sets c 0 (width_of catalogue own)) && cond_is_simple c) (are own)
-        (and_from (list_all is_simple (updated_from sets c 0 (width_of catalogue own))) (cond_is_simple c)
-        (updated_simple sets c 0 (width_of catalogue own) (update_is_simple catalogue own sets c fits) (sets_are_simple catalogue own sets c fits)) (update_is_simple catalogue own sets c fits))
-    rewritten_sound catalogue (delete own c) fits = and_from (is_sound (tables own)) (cond_is_simple c) (are own) (delete_is_simple catalogue own c fits)
+        (and_from (nat_lt 0 k) (nat_lt (length rows) (2 ^ 32)) (above_zero k some_statement) (given_are_few catalogue written rows fits)))
+    rewritten_sound catalogue (insert_select written select) fits =
+        and_from (is_sound (tables written)) (is_sound (made_of t k tables select)) (are written) (made_sound (width_of catalogue written) select (inserted_are_fit catalogue written select fits))
+    rewritten_sound catalogue (update written sets c) fits =
+        and_from (is_sound (tables written)) (list_all is_simple (updated_from sets c 0 (width_of catalogue written)) && cond_is_simple c) (are written)
+        (and_from (list_all is_simple (updated_from sets c 0 (width_of catalogue written))) (cond_is_simple c)
+        (updated_simple sets c 0 (width_of catalogue written) (update_is_simple catalogue written sets c fits) (sets_are_simple catalogue written sets c fits)) (update_is_simple catalogue written sets c fits))
+    rewritten_sound catalogue (delete written c) fits = and_from (is_sound (tables written)) (cond_is_simple c) (are written) (delete_is_simple catalogue written c fits)
     rewritten_sound catalogue (read select) fits = refl

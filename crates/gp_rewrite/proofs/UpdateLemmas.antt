@@ -29,10 +29,10 @@ columns_are front [] n e = refl
 columns_are front (c ∷ cells) n e =
     let others : values (columns_from (suc n) (length cells)) (front ++ (c ∷ cells)) ≡ cells =
     subst (λ row. values (columns_from (suc n) (length cells)) row ≡ cells) (append_assoc front (c ∷ []) cells) (columns_are (front ++ (c ∷ [])) cells (suc n) longer) in
-    λ i. own i ∷ others i
+    λ i. first i ∷ others i
   where
-    own : column (suc n) (front ++ (c ∷ cells)) ≡ c
-    own = subst (λ n. get_or (front ++ (c ∷ cells)) n cell.Null ≡ c) e (get_or-append_seam front c cells cell.Null)
+    first : column (suc n) (front ++ (c ∷ cells)) ≡ c
+    first = subst (λ n. get_or (front ++ (c ∷ cells)) n cell.Null ≡ c) e (get_or-append_seam front c cells cell.Null)
 
     longer : length (front ++ (c ∷ [])) ≡ suc n
     longer = let l : length (front ++ (c ∷ [])) ≡ length front + 1 = length-append front (c ∷ []) in omega arith

@@ -43,37 +43,37 @@ module _ {M : Type 0} (domain : Annotations M) (columns : ℕ → ℕ) where
   answer_wide width [] db fit = absurd fit
   answer_wide width (branch ∷ branches) db fit = branches_wide width 1 (branch ∷ branches) db fit
 
-  with_rows_wide : (own : ℕ) (rows : List (Annotated M)) (db : Database M) → AllByRecursion (IsAsWide own) rows → AreAsWide columns db → AreAsWide columns (with_rows own rows db)
-  with_rows_wide own rows db a wide table =
-      elim (table == own) as (λ b. (table == own) ≡ b → AllByRecursion (IsAsWide table) (cond b rows (db table))) [
-        | true ↦ λ e. subst (λ table. AllByRecursion (IsAsWide table) rows) (sym (eqb-true table own e)) a
+  with_rows_wide : (written : ℕ) (rows : List (Annotated M)) (db : Database M) → AllByRecursion (IsAsWide written) rows → AreAsWide columns db → AreAsWide columns (with_rows written rows db)
+  with_rows_wide written rows db a wide table =
+      elim (table == written) as (λ b. (table == written) ≡ b → AllByRecursion (IsAsWide table) (cond b rows (db table))) [
+        | true ↦ λ e. subst (λ table. AllByRecursion (IsAsWide table) rows) (sym (eqb-true table written e)) a
         | false ↦ λ e. wide table
       ] refl
 
-  changed_wide : (t k own : ℕ) (sets : List SetExpr) (c : Cond) (row : Annotated M) → IsAsWide own row → IsAsWide own (changed domain t k sets c row)
-  changed_wide t k own sets c row w = go (passes c row.cells)
+  changed_wide : (t k written : ℕ) (sets : List SetExpr) (c : Cond) (row : Annotated M) → IsAsWide written row → IsAsWide written (changed domain t k sets c row)
+  changed_wide t k written sets c row w = go (passes c row.cells)
     where
-      go : (b : Bool) → length (cond b (record { identity = row.identity; cells = assigned sets row.cells; mark = true; annotation = domain.times row.annotation (domain.token (Updated t k)) }) row).cells ≡ columns own
+      go : (b : Bool) → length (cond b (record { identity = row.identity; cells = assigned sets row.cells; mark = true; annotation = domain.times row.annotation (domain.token (Updated t k)) }) row).cells ≡ columns written
       go true = assigned_long sets row.cells 0 (length row.cells) ∙ w
       go false = w
 
 pub step_wide : {M : Type 0} (domain : Annotations M) (catalogue : List Table) (t k : ℕ) (statement : Statement) (db : Database M) →
     statement_fits catalogue statement ≡ true → AreAsWide (width_of catalogue) db → AreAsWide (width_of catalogue) (step domain t k statement db)
-step_wide domain catalogue t k (insert own rows) db fits wide =
+step_wide domain catalogue t k (insert written rows) db fits wide =
     let columns = width_of catalogue in
-    with_rows_wide domain columns own (db own ++ given_from domain t k 1 rows) db
-    (each_append (IsAsWide domain columns own) (db own) (given_from domain t k 1 rows) (wide own) (given_wide domain columns own t k 1 rows (given_are_wide catalogue own rows fits))) wide
-step_wide {M} domain catalogue t k (insert_select own select) db fits wide =
+    with_rows_wide domain columns written (db written ++ given_from domain t k 1 rows) db
+    (each_append (IsAsWide domain columns written) (db written) (given_from domain t k 1 rows) (wide written) (given_wide domain columns written t k 1 rows (given_are_wide catalogue written rows fits))) wide
+step_wide {M} domain catalogue t k (insert_select written select) db fits wide =
     let columns = width_of catalogue in
-    with_rows_wide domain columns own (db own ++ map (made domain t k) (answer domain select db)) db
-    (each_append (IsAsWide domain columns own) (db own) (map (made domain t k) (answer domain select db)) (wide own)
-    (each_map (IsAsWide domain columns own) (λ (e : Element M). length e.cells ≡ columns own) (made domain t k) (λ e w. w) (answer domain select db)
-    (answer_wide domain columns (columns own) select db (inserted_are_fit catalogue own select fits)))) wide
-step_wide domain catalogue t k (update own sets c) db fits wide =
+    with_rows_wide domain columns written (db written ++ map (made domain t k) (answer domain select db)) db
+    (each_append (IsAsWide domain columns written) (db written) (map (made domain t k) (answer domain select db)) (wide written)
+    (each_map (IsAsWide domain columns written) (λ (e : Element M). length e.cells ≡ columns written) (made domain t k) (λ e w. w) (answer domain select db)
+    (answer_wide domain columns (columns written) select db (inserted_are_fit catalogue written select fits)))) wide
+step_wide domain catalogue t k (update written sets c) db fits wide =
     let columns = width_of catalogue in
-    with_rows_wide domain columns own (map (changed domain t k sets c) (db own)) db
-    (each_map (IsAsWide domain columns own) (IsAsWide domain columns own) (changed domain t k sets c) (changed_wide domain columns t k own sets c) (db own) (wide own)) wide
-step_wide domain catalogue t k (delete own c) db fits wide =
+    with_rows_wide domain columns written (map (changed domain t k sets c) (db written)) db
+    (each_map (IsAsWide domain columns written) (IsAsWide domain columns written) (changed domain t k sets c) (changed_wide domain columns t k written sets c) (db written) (wide written)) wide
+step_wide domain catalogue t k (delete written c) db fits wide =
     let columns = width_of catalogue in
-    with_rows_wide domain columns own (filter (λ row. not (passes c row.cells)) (db own)) db (each_filter (IsAsWide domain columns own) (λ row. not (passes c row.cells)) (db own) (wide own)) wide
+    with_rows_wide domain columns written (filter (λ row. not (passes c row.cells)) (db written)) db (each_filter (IsAsWide domain columns written) (λ row. not (passes c row.cells)) (db written) (wide written)) wide
 step_wide domain catalogue t k (read select) db fits wide = wide

@@ -3,14 +3,12 @@
 ghost use Rattle.std.specs.Prelude.{◌≡◌, IfOk, Result};
 ghost use Rattle.gp_base.specs.declared.error.NoMemory.{NoMemory};
 ghost use Rattle.gp_base.specs.declared.token.Token.{Token};
-ghost use Rattle.gp_semiring.specs.Values.{monomial_value, token_value};
+ghost use Rattle.gp_semiring.specs.Values.{token_value};
 
 use crate::answers::Answers;
-use crate::power::raise;
 use crate::rules::Rules;
 use crate::semiring::Semiring;
-use gp_base::{Monomial, NoMemory, Token};
-use std::alloc::Global;
+use gp_base::{NoMemory, Token};
 use std::marker::{Model, PhantomData};
 
 /// A function that gives each token its value by rules. Contracts see it as the rules and the number of all other tokens.
@@ -62,20 +60,5 @@ impl<K: Semiring, F: Answers<K>> Valuation<K, F> {
             ≡ token_value K.one_of K.number_of K.itself_of self.now token.now) }
     {
         self.function.answer(token)
-    }
-
-    /// The value of a monomial: the product of the values of its tokens, each as often as its count. Running out of memory is
-    /// the only error.
-    pub fn of_monomial(&self, alloc: Global, monomial: &Monomial) -> Result<K, NoMemory>
-        ensures { IfOk result (λ element. element ≡ monomial_value K.one_of K.times_of
-            (token_value K.one_of K.number_of K.itself_of self.now) monomial.now) }
-    {
-        let mut all = K::one(alloc)?;
-        for power in monomial.powers() {
-            let value = self.of_token(&power.0)?;
-            let raised = raise(alloc, &value, power.1)?;
-            all = all.times(alloc, &raised)?;
-        }
-        Ok(all)
     }
 }

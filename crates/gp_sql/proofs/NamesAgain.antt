@@ -9,13 +9,13 @@ use Rattle.std.proofs.lemmas.Bool.{cases_Bool, and_parts, and_from, leb-true, lt
 use Rattle.std.proofs.lemmas.Fmt.{digits_decimal, digits_value-decimal, decimal_nonempty}
 use Rattle.std.proofs.lemmas.List.{take_at}
 use Rattle.std.proofs.lemmas.List.Folds.{list_all-append}
-use Rattle.gp_base.proofs.DigitLemmas.{all_digits, own_on}
+use Rattle.gp_base.proofs.DigitLemmas.{own_on}
 use Rattle.gp_base.specs.declared.cell.Cell.TheVariants as cell
 use Rattle.gp_base.specs.declared.table.Column as table
 use Rattle.gp_base.specs.declared.table.Table.{Table}
 use Rattle.gp_base.specs.Catalogs.{table_names}
 use Rattle.gp_base.specs.Cells.{fits_number}
-use Rattle.gp_base.specs.Digits.{is_digit}
+use Rattle.gp_base.specs.Digits.{are_digits, is_digit}
 use Rattle.gp_base.specs.Names.{is_name, is_name_byte, is_lower_letter}
 use Rattle.gp_plantext.specs.Leaves.{behind, name_at, most_u64, number_at}
 use Rattle.gp_plantext.proofs.CellAgain.{cell-again}
@@ -48,10 +48,10 @@ middle : (a d c : Bool) → d ≡ true → ((a || d) || c) ≡ true
 middle true d c is = refl
 middle false d c is = ap (λ (x : Bool). x || c) is
 
-digits-names : (ds : List ℕ) → all_digits ds ≡ true → list_all is_name_byte ds ≡ true
+digits-names : (ds : List ℕ) → are_digits ds ≡ true → list_all is_name_byte ds ≡ true
 digits-names [] all = refl
 digits-names (d ∷ ds) all =
-    let p = and_parts (is_digit d) (all_digits ds) all in
+    let p = and_parts (is_digit d) (are_digits ds) all in
     and_from (is_name_byte d) (list_all is_name_byte ds) (middle (is_lower_letter d) (is_digit d) (d == 95) p.0) (digits-names ds p.1)
 
 -- ---- places of names
@@ -130,10 +130,10 @@ last-versions : (byte : ℕ) (name : List ℕ) → last_byte byte (name ++ codes
 last-versions byte [] = refl
 last-versions byte (next ∷ name) = last-versions next name
 
-last-digit : (byte : ℕ) (ds : List ℕ) → all_digits ds ≡ true → 0 < length ds → is_digit (last_byte byte ds) ≡ true
+last-digit : (byte : ℕ) (ds : List ℕ) → are_digits ds ≡ true → 0 < length ds → is_digit (last_byte byte ds) ≡ true
 last-digit byte [] all some = absurd (omega (arith, some))
 last-digit byte (d ∷ []) all some = (and_parts (is_digit d) true all).0
-last-digit byte (d ∷ e ∷ ds) all some = last-digit d (e ∷ ds) (and_parts (is_digit d) (all_digits (e ∷ ds)) all).1 (omega arith)
+last-digit byte (d ∷ e ∷ ds) all some = last-digit d (e ∷ ds) (and_parts (is_digit d) (are_digits (e ∷ ds)) all).1 (omega arith)
 
 module _ (tables : List Table) (apart : HaveOwnNames tables) where
   source-is : (source : Source) → source_is_spelled tables source ≡ true → source_of tables (source_text tables source) ≡ source

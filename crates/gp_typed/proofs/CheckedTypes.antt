@@ -1,39 +1,24 @@
 -- Checked statements and queries have types.
-use Rattle.std.proofs.Common.{◌≡◌, ℕ, Bool, true, false, cond, List, [], ◌∷◌, ◌++◌, length, map, Some, None, Ok, refl, sym, ap, subst, ◌∙◌, append-nil, length-append, arith}
-use Rattle.std.specs.Prelude.{Option, is_some, ◌&&◌}
-use Rattle.std.specs.List.{fold, list_all}
-use Rattle.std.specs.Option.{option_map, option_map_or, option_or}
-use Rattle.std.proofs.lemmas.Bool.{and_parts, and_from, false≢true}
-use Rattle.gp_base.specs.declared.cell.Cell.{Cell}
+use Rattle.gp_typed.proofs.Prelude.{◌≡◌, ℕ, Bool, true, false, cond, List, [], ◌∷◌, ◌++◌, length, map, Some, None, Ok, refl, sym, ap, subst, ◌∙◌, append-nil, length-append, arith, Option, is_some, ◌&&◌, fold, list_all, option_map_or, and_parts, and_from, false≢true, Cell, Column, Table, none_parts, Bytes, Command, Item, Term, joined_width, Select, Statement, columns_behind, Place, Found, TermType, checked_query, first_fault, first_refusal, table_fault, cond_of, expr_of, meant_statement, number_of_table, select_of, Scope, columns_of, resolution, scope_of, agrees, common_type, is_value, query_is_valid, accepted, holds_if, CellType, Null, both_types, cell_type, common, common_types, cond_is_typed, expr_type, exprs_types, kind_type, row_types, type_at, with_first, are_into, branch_types, fill, is_into, joined_types, optional_cond_is_typed, select_is_typed, select_types, set_is_typed, statement_is_typed, table_types}
+use Rattle.std.specs.Option.{option_map, option_or}
 use Rattle.gp_base.specs.declared.cell.Cell.TheVariants as cell
 use Rattle.gp_base.specs.declared.refusal.Refusal.TheVariants.{E07, E15}
-use Rattle.gp_base.specs.declared.table.Column.{Column}
-use Rattle.gp_base.specs.declared.table.Table.{Table}
 use Rattle.gp_base.specs.UserCells.{is_user_cell}
-use Rattle.gp_base.proofs.SmallLemmas.{none_parts}
 use Rattle.gp_grammar.specs.Syntax as y
-use Rattle.gp_grammar.specs.Syntax.{Bytes, Block, Command, Item, Items, Query, SetTerm, Term, is_statement}
-use Rattle.gp_algebra.specs.Fitting.{joined_width}
-use Rattle.gp_algebra.specs.Statements.{Select, Statement, columns_behind}
-use Rattle.gp_check.specs.declared.place.Place.{Place}
+use Rattle.gp_grammar.specs.Syntax.{Block, Items, Query, SetTerm, is_statement}
 use Rattle.gp_check.specs.declared.place.Resolution.{Resolution}
-use Rattle.gp_check.specs.declared.place.Resolution.TheVariants.{Absent, Found, Ambiguous}
-use Rattle.gp_check.specs.declared.types.TermType.{TermType}
+use Rattle.gp_check.specs.declared.place.Resolution.TheVariants.{Absent, Ambiguous}
 use Rattle.gp_check.specs.declared.types.TermType.TheVariants as t
-use Rattle.gp_check.specs.Checking.{checked, checked_query}
+use Rattle.gp_check.specs.Checking.{checked}
 use Rattle.gp_check.specs.Faults as f
-use Rattle.gp_check.specs.Faults.{agree_with, all_agree, are_values, block_tables_fault, block_types, block_where_is_typed, blocks_are_typed, cells_agree, columns_fault, first_fault, first_refusal, items_types, kind_types, names_fault, pairs_agree, query_is_typed, query_tables_fault, scope_types, scope_width, set_name, sets_fault, table_fault, tables_fault, unless, where_is_typed, widths_agree}
-use Rattle.gp_check.specs.Meaning.{branch_of, column_number, cond_of, expr_of, exprs_of, meant_statement, number_of_table, select_of, set_expr_of, where_of}
-use Rattle.gp_check.specs.Scopes.{Scope, columns_of, resolution, scope_of, target_scope}
+use Rattle.gp_check.specs.Faults.{agree_with, all_agree, are_values, block_tables_fault, block_types, block_where_is_typed, blocks_are_typed, cells_agree, columns_fault, items_types, kind_types, names_fault, pairs_agree, query_is_typed, query_tables_fault, scope_types, scope_width, set_name, sets_fault, tables_fault, unless, where_is_typed, widths_agree}
+use Rattle.gp_check.specs.Meaning.{branch_of, column_number, exprs_of, set_expr_of, where_of}
+use Rattle.gp_check.specs.Scopes.{target_scope}
 use Rattle.gp_check.specs.Typing as check
-use Rattle.gp_check.specs.Typing.{agrees, column_type, common_type, is_condition, is_value, operand_passes, operands_agree, type_of}
-use Rattle.gp_check.specs.Valid.{is_valid, query_is_valid}
-use Rattle.gp_check.proofs.FittingLemmas.{accepted, from_fits, holds_if}
+use Rattle.gp_check.specs.Typing.{column_type, is_condition, operand_passes, operands_agree, type_of}
+use Rattle.gp_check.specs.Valid.{is_valid}
+use Rattle.gp_check.proofs.FittingLemmas.{from_fits}
 use Rattle.gp_check.proofs.TypingLemmas.{sound}
-use Rattle.gp_sql.specs.declared.cell_type.CellType.{CellType}
-use Rattle.gp_sql.specs.declared.cell_type.CellType.TheVariants.{Null}
-use Rattle.gp_sql.specs.Types.{both_types, cell_type, common, common_types, cond_is_typed, expr_type, exprs_types, kind_type, row_types, type_at, with_first}
-use Rattle.gp_typed.specs.StatementTypes.{are_into, branch_types, fill, is_into, joined_types, optional_cond_is_typed, select_is_typed, select_types, set_is_typed, statement_is_typed, table_types}
 use Rattle.gp_typed.proofs.TypeLists.{columns_types}
 use Rattle.gp_typed.proofs.JoinedTypes.{types_width}
 use Rattle.gp_typed.proofs.TermTypes.{ResolvesIn, agrees_common, agrees_into, agrees_values, as_cell, from_resolves, kind_as_cell, kinds_types, means, numbers_of, scope_cells, scope_joined, table_cells, value_means}

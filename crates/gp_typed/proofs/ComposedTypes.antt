@@ -1,35 +1,24 @@
 -- The programs of states have types, if all statements and the query have.
-use Rattle.std.proofs.Common.{◌≡◌, ◌≤◌, ℕ, zero, suc, Bool, true, false, cond, List, [], ◌∷◌, ◌++◌, map, Some, None, refl, sym, ap, subst, ◌∙◌, arith}
-use Rattle.std.specs.Prelude.{Option, is_some, is_none, ◌&&◌, ◌==◌, nat_le, nat_lt, not, slice_get, length}
-use Rattle.std.specs.List.{AllByRecursion}
-use Rattle.std.proofs.lemmas.Bool.{eqb-true, leb-true}
+use Rattle.gp_typed.proofs.Prelude.{◌≡◌, ◌≤◌, ℕ, zero, suc, Bool, true, false, cond, List, [], ◌∷◌, ◌++◌, map, Some, None, refl, sym, ap, subst, ◌∙◌, arith, Option, is_some, ◌&&◌, ◌==◌, nat_lt, slice_get, AllByRecursion, eqb-true, none-some, same_Some, Table, left_true, none_parts, right_true, Query, is_there, select_fits, statement_fits, Select, Statement, delete, insert, insert_select, read, target, update, width_of, Entry, Created, Began, Ran, Committed, Ended, log_refusal, tables_in, rewritten, merged_at, CellType, is_typed, scan_types, select_is_typed, statement_is_typed, statements_are_typed}
+use Rattle.std.specs.Prelude.{is_none, nat_le, not, length}
+use Rattle.std.proofs.lemmas.Bool.{leb-true}
 use Rattle.std.proofs.lemmas.Bool.Decides.{nat_tests}
-use Rattle.std.proofs.lemmas.Option.{none-some, same_Some}
 use Rattle.gp_base.specs.declared.refusal.Refusal.TheVariants.{E20, E21, E22}
-use Rattle.gp_base.specs.declared.table.Table.{Table}
-use Rattle.gp_base.proofs.SmallLemmas.{each_append, each_map, eq_itself, left_true, none_parts, right_true, some_none}
+use Rattle.gp_base.proofs.SmallLemmas.{each_append, each_map, eq_itself, some_none}
 use Rattle.gp_grammar.specs.Syntax as y
 use Rattle.gp_algebra.specs.AnnotatedQueries as q
-use Rattle.gp_algebra.specs.AnnotatedQueries.{Query, QueryStep, Program, step_table}
-use Rattle.gp_algebra.specs.Fitting.{is_there, select_fits, statement_fits}
-use Rattle.gp_algebra.specs.Statements.{Select, Statement, delete, insert, insert_select, read, target, update, width_of}
-use Rattle.gp_machine.specs.Entries.{Entry, Created, Began, Ran, Committed, Ended, Log, fate_of, log_of, statement_at, statement_count, transactions_in, version_of}
+use Rattle.gp_algebra.specs.AnnotatedQueries.{QueryStep, Program, step_table}
+use Rattle.gp_machine.specs.Entries.{Log, fate_of, log_of, statement_at, statement_count, transactions_in, version_of}
 use Rattle.gp_machine.specs.Points.{version_before}
-use Rattle.gp_machine.specs.Questions.{log_refusal, statement_refusal, transaction_refusal}
+use Rattle.gp_machine.specs.Questions.{statement_refusal, transaction_refusal}
 use Rattle.gp_machine.proofs.EntryCounts.{count-most}
-use Rattle.gp_log.specs.LogFacts.{tables_in}
 use Rattle.gp_log.specs.LogFitting.{statements_fit}
 use Rattle.gp_log.proofs.FittingLogs.{statement_at_fits}
-use Rattle.gp_rewrite.specs.Rewriting.{rewritten}
 use Rattle.gp_compose.specs.Composed.{composed, current, current_before, last_write, moved, onto, program_after, program_at, program_of_commit, published_query, step_of, writes}
 use Rattle.gp_compose.specs.StepForms.{is_target, steps_of}
 use Rattle.gp_compose.proofs.StepLists.{AreWithin, Stands, here, stands_behind, stands_front, stands_table, within_append}
 use Rattle.gp_prov.specs.ToPlain.{plain_program, plain_step}
-use Rattle.gp_reenact.specs.Programs.{merged_at}
 use Rattle.gp_reenact.proofs.ReplayLemmas.{planned_is_built}
-use Rattle.gp_sql.specs.declared.cell_type.CellType.{CellType}
-use Rattle.gp_sql.specs.Types.{is_typed, scan_types}
-use Rattle.gp_typed.specs.StatementTypes.{select_is_typed, statement_is_typed, statements_are_typed}
 use Rattle.gp_typed.proofs.JoinedTypes.{scan_there}
 use Rattle.gp_typed.proofs.MergedTypes.{AreTyped, StepIsTyped, merged_is_typed}
 use Rattle.gp_typed.proofs.RewrittenTypes.{IsContents, at_steps, publish_contents, query_is_typed, rewritten_contents, scan_contents, step_contents}

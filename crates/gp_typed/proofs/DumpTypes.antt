@@ -1,33 +1,20 @@
 -- The statements of a well-formed dump have types over its tables, and its row versions have cells of the types of their columns.
-use Rattle.std.proofs.Common.{◌≡◌, ◌≤◌, ℕ, zero, suc, true, false, List, [], ◌∷◌, ◌++◌, length, map, None, Ok, refl, sym, subst, true≢false, arith}
-use Rattle.std.specs.Prelude.{◌&&◌, slice_index_or}
-use Rattle.std.specs.List.{AllByRecursion}
-use Rattle.std.proofs.lemmas.Bool.{and_parts, and_from, le-leb}
-use Rattle.gp_base.specs.declared.cell.Cell.{Cell}
+use Rattle.gp_typed.proofs.Prelude.{◌≡◌, ◌≤◌, ℕ, zero, suc, true, false, List, [], ◌∷◌, ◌++◌, length, map, None, Ok, refl, sym, subst, arith, ◌&&◌, AllByRecursion, and_parts, and_from, le-leb, Cell, Column, Kind, Table, identity, no_sources, is_u32, Command, select_fits, statement_fits, Select, checked_query, first_refusal, meant_statement, select_of, query_is_valid, accepted, Began, Committed, Created, Ended, Entry, Ran, log_refusal, tables_in, are_u32, is_typed, kind_type, statement_is_typed, statements_are_typed, merged_at}
+use Rattle.std.proofs.Common.{true≢false}
+use Rattle.std.specs.Prelude.{slice_index_or}
 use Rattle.gp_base.specs.declared.cell.Cell.TheVariants as cell
-use Rattle.gp_base.specs.declared.table.Column.{Column}
-use Rattle.gp_base.specs.declared.table.Kind.{Kind}
 use Rattle.gp_base.specs.declared.table.Kind.TheVariants as kind
-use Rattle.gp_base.specs.declared.table.Table.{Table}
-use Rattle.gp_base.specs.Identities.{Identity, Sources, identity, no_sources, source}
-use Rattle.gp_base.specs.Tokens.{is_u32}
+use Rattle.gp_base.specs.Identities.{Identity, Sources, source}
 use Rattle.gp_grammar.specs.Canonical.{command_text}
 use Rattle.gp_grammar.specs.Syntax as y
-use Rattle.gp_grammar.specs.Syntax.{Command, Query}
-use Rattle.gp_algebra.specs.Fitting.{select_fits, statement_fits}
-use Rattle.gp_algebra.specs.Statements.{Select}
+use Rattle.gp_grammar.specs.Syntax.{Query}
 use Rattle.gp_algebra.proofs.FittingMore.{statement_more}
-use Rattle.gp_check.specs.Checking.{checked_query}
-use Rattle.gp_check.specs.Faults.{first_refusal}
-use Rattle.gp_check.specs.Meaning.{meant_statement, select_of}
-use Rattle.gp_check.specs.Valid.{query_is_valid, tables_are_valid}
-use Rattle.gp_check.proofs.FittingLemmas.{accepted, fits}
+use Rattle.gp_check.specs.Valid.{tables_are_valid}
+use Rattle.gp_check.proofs.FittingLemmas.{fits}
 use Rattle.gp_check.proofs.ValidLemmas.{command-derived, tables-added}
-use Rattle.gp_machine.specs.Entries.{Began, Committed, Created, Ended, Entry, Ran, versions_in}
-use Rattle.gp_machine.specs.Questions.{log_refusal}
+use Rattle.gp_machine.specs.Entries.{versions_in}
 use Rattle.gp_versions.specs.declared.span.Span.{Span}
 use Rattle.gp_log.specs.Discipline.{IsLog}
-use Rattle.gp_log.specs.LogFacts.{tables_in}
 use Rattle.gp_log.specs.Parameters.{parameters}
 use Rattle.gp_log.proofs.CheckedEntries.{was_checked}
 use Rattle.gp_dumpline.specs.Rows.{AreReadable, IsPart, IsReadable}
@@ -35,10 +22,8 @@ use Rattle.gp_dump.specs.Dumps.{Dump, fits_columns, is_of_kind}
 use Rattle.gp_dump.proofs.FittingTables.{statements_of_dumps}
 use Rattle.gp_dump.specs.WholeDumps as w
 use Rattle.gp_dump.specs.WholeDumps.{AreInPlace, AreOfTables, IsDump}
-use Rattle.gp_sql.specs.Types.{AreOf, IsOf, all_numbers_fit, are_u32, is_typed, kind_type, numbers_fit}
+use Rattle.gp_sql.specs.Types.{AreOf, IsOf, all_numbers_fit, numbers_fit}
 use Rattle.gp_sql.specs.VersionTables.{AllSpansFit, SpanFits}
-use Rattle.gp_typed.specs.StatementTypes.{statement_is_typed, statements_are_typed}
-use Rattle.gp_reenact.specs.Programs.{merged_at}
 use Rattle.gp_typed.proofs.CheckedTypes.{checked_is_typed, checked_query_is_typed}
 use Rattle.gp_typed.proofs.ComposedTypes.{merged_at_is_typed}
 use Rattle.gp_typed.proofs.MoreTables.{typed_more}

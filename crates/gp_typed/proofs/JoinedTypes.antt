@@ -1,17 +1,5 @@
 -- The types of tables side by side, each with its identity and its mark behind its columns, and of the user's columns where they stand between these.
-use Rattle.std.proofs.Common.{◌≡◌, ◌<◌, ℕ, zero, suc, ◌+◌, true, false, List, [], ◌∷◌, ◌++◌, length, map, Some, None, refl, sym, ap, ◌∙◌, append_assoc, length-append, arith}
-use Rattle.std.specs.Prelude.{Option, is_some, slice_get}
-use Rattle.std.specs.Option.{option_map_or}
-use Rattle.std.proofs.lemmas.Bool.{and_from, ltb-true}
-use Rattle.gp_base.specs.declared.table.Table.{Table}
-use Rattle.gp_base.proofs.SmallLemmas.{length-map}
-use Rattle.gp_algebra.specs.Fitting.{is_there}
-use Rattle.gp_algebra.specs.Statements.{columns_behind, width_of}
-use Rattle.gp_prov.specs.ToPlain.{identities_from, users_from}
-use Rattle.gp_sql.specs.declared.cell_type.CellType.{CellType}
-use Rattle.gp_sql.specs.declared.cell_type.CellType.TheVariants.{Id, Mark}
-use Rattle.gp_sql.specs.Types.{column_types, exprs_types, is_id, parts_are_ids, product_types, scan_types}
-use Rattle.gp_typed.specs.StatementTypes.{joined_types, table_types}
+use Rattle.gp_typed.proofs.Prelude.{◌≡◌, ◌<◌, ℕ, zero, suc, ◌+◌, true, false, List, [], ◌∷◌, ◌++◌, length, map, Some, None, refl, sym, ap, ◌∙◌, append_assoc, length-append, arith, Option, is_some, slice_get, option_map_or, and_from, ltb-true, Table, length-map, is_there, columns_behind, width_of, identities_from, users_from, CellType, Id, Mark, column_types, exprs_types, is_id, parts_are_ids, product_types, scan_types, joined_types, table_types}
 use Rattle.gp_typed.proofs.TypeLists.{columns_types, exprs-append, type_behind}
 
 -- ---- tables that are there

@@ -1,3 +1,4 @@
+pub mod Prelude
 pub mod TypeLists
 pub mod JoinedTypes
 pub mod MergedTypes

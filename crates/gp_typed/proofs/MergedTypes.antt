@@ -1,21 +1,14 @@
 -- Merged programs have types, if each step of the program has the types of its table. These are given for each step at once, so a step in the place of its use
 -- changes no type.
-use Rattle.std.proofs.Common.{◌≡◌, ℕ, Bool, true, false, cond, List, [], ◌∷◌, map, Some, None, refl, sym, ap, ◌∙◌}
-use Rattle.std.specs.Prelude.{Option, is_some, ◌&&◌, ◌||◌, ◌==◌}
-use Rattle.std.specs.List.{AllByRecursion}
-use Rattle.std.proofs.lemmas.Bool.{and_parts, eqb-true}
+use Rattle.gp_typed.proofs.Prelude.{◌≡◌, ℕ, Bool, true, false, cond, List, [], ◌∷◌, map, Some, None, refl, sym, ap, ◌∙◌, Option, is_some, ◌&&◌, ◌==◌, AllByRecursion, and_parts, eqb-true, Table, Expr, Cond, substituted_each, CellType, cond_is_typed, exprs_types, both_types, selected_types, projected_types, product_types, published_types, StepTypes, query_types, is_typed, substituted-types}
+use Rattle.std.specs.Prelude.{◌||◌}
 use Rattle.gp_base.proofs.SmallLemmas.{eq_turned}
-use Rattle.gp_base.specs.declared.table.Table.{Table}
 use Rattle.gp_expr.specs.Expressions as e
-use Rattle.gp_expr.specs.Expressions.{Expr, Cond}
-use Rattle.gp_expr.specs.Substitution.{substituted_each}
 use Rattle.gp_algebra.specs.Plain.{Plain, scan, step, select, project, product, union, given, publish, PlainStep, PlainProgram}
 use Rattle.gp_algebra.specs.WellBuilt.{is_among, is_above, query_is_built, rows_are_built, step_is_built, steps_are_built, numbers_after, is_well_built}
 use Rattle.gp_merge.specs.Merging.{inlined, stays, settled, is_small, selected, projected, rebuilt, merged}
 use Rattle.gp_merge.specs.MergingForms.{program_inlined}
-use Rattle.gp_sql.specs.declared.cell_type.CellType.{CellType}
-use Rattle.gp_sql.specs.Types.{cond_is_typed, exprs_types, both_types, selected_types, projected_types, product_types, published_types, StepTypes, query_types, no_types, with_types, steps_types, steps_are_typed, is_typed}
-use Rattle.gp_sql.proofs.SubstitutionTypes.{substituted-types}
+use Rattle.gp_sql.specs.Types.{no_types, with_types, steps_types, steps_are_typed}
 
 abbrev Known : Option (List CellType) → Type 0
 Known types = is_some types ≡ true

@@ -1,17 +1,5 @@
 -- A statement that has types over some tables has them with more tables behind.
-use Rattle.std.proofs.Common.{◌≡◌, ◌<◌, ℕ, zero, suc, true, cond, List, [], ◌∷◌, ◌++◌, length, None, refl, ap, ◌∙◌, arith}
-use Rattle.std.specs.Prelude.{Option, is_some, ◌&&◌, nat_lt, slice_get}
-use Rattle.std.specs.List.{fold, list_all}
-use Rattle.std.specs.Option.{option_map_or}
-use Rattle.std.proofs.lemmas.Bool.{and_parts, ltb-true}
-use Rattle.gp_base.specs.declared.cell.Cell.{Cell}
-use Rattle.gp_base.specs.declared.table.Table.{Table}
-use Rattle.gp_base.proofs.SmallLemmas.{left_true, right_true}
-use Rattle.gp_algebra.specs.Fitting.{branch_fits, branches_fit, is_countable, is_there, select_width, statement_fits}
-use Rattle.gp_algebra.specs.Statements.{Branch, Select, Statement, delete, insert, insert_select, read, update, width_of}
-use Rattle.gp_sql.specs.declared.cell_type.CellType.{CellType}
-use Rattle.gp_sql.specs.Types.{both_types, column_types, cond_is_typed, exprs_types, row_types}
-use Rattle.gp_typed.specs.StatementTypes.{branch_types, fill, joined_types, optional_cond_is_typed, select_types, set_is_typed, statement_is_typed, table_types}
+use Rattle.gp_typed.proofs.Prelude.{◌≡◌, ◌<◌, ℕ, zero, suc, true, cond, List, [], ◌∷◌, ◌++◌, length, None, refl, ap, ◌∙◌, arith, Option, is_some, ◌&&◌, nat_lt, slice_get, fold, list_all, option_map_or, and_parts, ltb-true, Cell, Table, left_true, right_true, branch_fits, branches_fit, is_countable, is_there, select_width, statement_fits, Branch, Select, Statement, delete, insert, insert_select, read, update, width_of, CellType, both_types, column_types, cond_is_typed, exprs_types, row_types, branch_types, fill, joined_types, optional_cond_is_typed, select_types, set_is_typed, statement_is_typed, table_types}
 
 get_before : {X : Type 0} (xs others : List X) (place : ℕ) → place < length xs → slice_get (xs ++ others) place ≡ slice_get xs place
 get_before [] others place less = absurd (omega (arith, less))

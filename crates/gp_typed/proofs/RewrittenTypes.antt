@@ -1,37 +1,24 @@
 -- Rewritten statements and queries have types without provenance, if the statements have, and the queries of the tables have those of the tables.
-use Rattle.std.proofs.Common.{◌≡◌, ◌≤◌, ◌<◌, ℕ, zero, suc, ◌+◌, Bool, true, false, cond, List, [], ◌∷◌, ◌++◌, length, map, Some, None, refl, sym, ap, subst, ◌∙◌, append_assoc, append-nil, length-append, arith}
-use Rattle.std.specs.Prelude.{Option, is_some, ◌&&◌, ◌==◌, ◌^◌, nat_lt, slice_get, sum}
-use Rattle.std.specs.List.{fold, list_all}
-use Rattle.std.specs.Option.{option_map_or}
-use Rattle.std.proofs.lemmas.Bool.{and_parts, and_from, eqb-true, le-leb, ltb-true, false≢true}
+use Rattle.gp_typed.proofs.Prelude.{◌≡◌, ◌≤◌, ◌<◌, ℕ, zero, suc, ◌+◌, Bool, true, false, cond, List, [], ◌∷◌, ◌++◌, length, map, Some, None, refl, sym, ap, subst, ◌∙◌, append_assoc, append-nil, length-append, arith, Option, is_some, ◌&&◌, ◌==◌, nat_lt, slice_get, fold, list_all, option_map_or, and_parts, and_from, eqb-true, le-leb, ltb-true, false≢true, none-some, same_Some, Cell, Table, identity, no_sources, is_u32, left_true, right_true, Expr, Cond, substituted_each, branch_fits, branches_fit, is_countable, is_there, joined_width, select_fits, select_width, statement_fits, Branch, Select, Statement, insert, insert_select, update, delete, read, target, width_of, Query, identities_from, users_from, rewritten, CellType, Null, Int, Text, Id, Mark, are_u32, both_types, case_type, common, common_types, cond_is_typed, expr_type, exprs_types, is_id, parts_are_ids, product_types, projected_types, published_types, query_types, row_types, scan_types, selected_types, type_at, with_first, StepTypes, substituted-types, are_into, branch_types, fill, is_into, joined_types, optional_cond_is_typed, select_is_typed, select_types, set_is_typed, statement_is_typed, table_types}
+use Rattle.std.specs.Prelude.{◌^◌, sum}
 use Rattle.std.proofs.lemmas.List.{map-append}
 use Rattle.std.proofs.lemmas.List.Sums.{sum_by-cons}
-use Rattle.std.proofs.lemmas.Option.{none-some, same_Some}
-use Rattle.gp_base.specs.declared.cell.Cell.{Cell}
 use Rattle.gp_base.specs.declared.cell.Cell.TheVariants as cell
-use Rattle.gp_base.specs.declared.table.Table.{Table}
 use Rattle.gp_base.specs.declared.token.Token.TheVariants.{Updated}
 use Rattle.gp_base.specs.Annotated.{monomials}
-use Rattle.gp_base.specs.Identities.{identity, no_sources}
-use Rattle.gp_base.specs.Tokens.{is_u32}
-use Rattle.gp_base.proofs.SmallLemmas.{left_true, right_true}
 use Rattle.gp_expr.specs.Expressions as e
-use Rattle.gp_expr.specs.Expressions.{Expr, Cond}
-use Rattle.gp_expr.specs.Substitution.{substituted_cond, substituted_each}
+use Rattle.gp_expr.specs.Substitution.{substituted_cond}
 use Rattle.gp_algebra.specs.Effects.{given_from, set_for}
-use Rattle.gp_algebra.specs.Fitting.{branch_fits, branches_fit, cond_fits, expr_fits, is_countable, is_there, joined_width, optional_cond_fits, row_fits, select_fits, select_width, set_fits, statement_fits}
-use Rattle.gp_algebra.specs.Statements.{SetExpr, Branch, Select, Statement, insert, insert_select, update, delete, read, target, width_of}
+use Rattle.gp_algebra.specs.Fitting.{cond_fits, expr_fits, optional_cond_fits, row_fits, set_fits}
+use Rattle.gp_algebra.specs.Statements.{SetExpr}
 use Rattle.gp_algebra.specs.AnnotatedQueries as q
-use Rattle.gp_algebra.specs.AnnotatedQueries.{Change, Query}
+use Rattle.gp_algebra.specs.AnnotatedQueries.{Change}
 use Rattle.gp_prov.specs.Encoding.{encoded_row}
-use Rattle.gp_prov.specs.ToPlain.{answer_columns, changed_columns, identities_from, new_columns, plain_last, plain_query, users_from, widths_of}
-use Rattle.gp_rewrite.specs.Rewriting.{branch_of, cased, made_of, made_onto, product_of, query_of, rewritten, selected_by, update_query, updated_from}
+use Rattle.gp_prov.specs.ToPlain.{answer_columns, changed_columns, new_columns, plain_last, plain_query, widths_of}
+use Rattle.gp_rewrite.specs.Rewriting.{branch_of, cased, made_of, made_onto, product_of, query_of, selected_by, update_query, updated_from}
 use Rattle.gp_rewrite.specs.RewritingForms.{product_onto, union_onto}
-use Rattle.gp_sql.specs.declared.cell_type.CellType.{CellType}
-use Rattle.gp_sql.specs.declared.cell_type.CellType.TheVariants.{Null, Int, Text, Id, Mark}
-use Rattle.gp_sql.specs.Types.{are_published, are_u32, both_types, case_type, common, common_types, cond_is_typed, expr_type, exprs_types, given_types, is_id, is_mark, parts_are_ids, product_types, projected_types, published_types, query_types, row_types, scan_types, selected_types, type_at, with_first, StepTypes}
-use Rattle.gp_sql.proofs.SubstitutionTypes.{substituted-cond, substituted-types}
-use Rattle.gp_typed.specs.StatementTypes.{are_into, branch_types, fill, is_into, joined_types, optional_cond_is_typed, select_is_typed, select_types, set_is_typed, statement_is_typed, table_types}
+use Rattle.gp_sql.specs.Types.{are_published, given_types, is_mark}
+use Rattle.gp_sql.proofs.SubstitutionTypes.{substituted-cond}
 use Rattle.gp_typed.proofs.TypeLists.{all_into_itself, exprs-append, into_append, row-append, type_behind, union_column, union_into}
 use Rattle.gp_typed.proofs.JoinedTypes.{identity_behind, ids_types, mark_behind, row_of, rows-append, rows_of, scan_there, types_width, users_types}
 

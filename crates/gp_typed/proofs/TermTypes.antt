@@ -1,36 +1,20 @@
 -- A well-typed term has the type as an expression that it has as a term, over the columns of its FROM.
-use Rattle.std.proofs.Common.{◌≡◌, ℕ, suc, ◌+◌, Bool, true, false, List, [], ◌∷◌, ◌++◌, length, map, filter_map, bytes_eq, Some, None, option_and_then, unwrap_or, slice_get, if◌then◌else◌, refl, sym, ap, subst, ◌∙◌, append_assoc, length-append, arith}
-use Rattle.std.specs.Prelude.{Option, is_some}
-use Rattle.std.specs.List.{AllByRecursion, cons_option}
-use Rattle.std.specs.Option.{option_map_or}
-use Rattle.std.proofs.lemmas.Bool.{and_from, false≢true}
-use Rattle.std.proofs.lemmas.Option.{none-some, same_Some}
-use Rattle.gp_base.specs.declared.table.Column.{Column}
-use Rattle.gp_base.specs.declared.table.Kind.{Kind}
+use Rattle.gp_typed.proofs.Prelude.{◌≡◌, ℕ, suc, ◌+◌, Bool, true, false, List, [], ◌∷◌, ◌++◌, length, map, Some, None, refl, sym, ap, subst, ◌∙◌, append_assoc, length-append, arith, Option, is_some, AllByRecursion, option_map_or, and_from, false≢true, none-some, same_Some, Column, Kind, Table, length-map, none_parts, Bytes, Item, Term, Place, Found, TermType, first_fault, table_fault, cond_of, expr_of, number_of_table, Scope, columns_of, resolution, scope_of, agrees, common_type, is_value, holds_if, CellType, Null, Int, Text, case_type, column_types, common, cond_is_typed, expr_type, kind_type, type_at, is_into, joined_types, table_types}
+use Rattle.std.proofs.Common.{filter_map, bytes_eq, option_and_then, unwrap_or, slice_get, if◌then◌else◌}
+use Rattle.std.specs.List.{cons_option}
 use Rattle.gp_base.specs.declared.table.Kind.TheVariants as kind
-use Rattle.gp_base.specs.declared.table.Table.{Table}
 use Rattle.gp_base.specs.Catalogs.{place_of}
-use Rattle.gp_base.proofs.SmallLemmas.{length-map, none_parts}
 use Rattle.gp_grammar.specs.declared.op.Op.{Op}
 use Rattle.gp_grammar.specs.declared.op.Op.TheVariants as op
 use Rattle.gp_grammar.specs.Syntax as y
-use Rattle.gp_grammar.specs.Syntax.{Bytes, Item, Term}
-use Rattle.gp_check.specs.declared.place.Place.{Place}
-use Rattle.gp_check.specs.declared.place.Resolution.TheVariants.{Found}
-use Rattle.gp_check.specs.declared.types.TermType.{TermType}
 use Rattle.gp_check.specs.declared.types.TermType.TheVariants as t
-use Rattle.gp_check.specs.Faults.{first_fault, table_fault}
-use Rattle.gp_check.specs.Meaning.{column_expr, cond_of, expr_of, number_of_table}
-use Rattle.gp_check.specs.Scopes.{ColumnName, Scope, Source, columns_of, may_be_of, only_place, place_behind, place_in, resolution, scope_behind, scope_of}
+use Rattle.gp_check.specs.Meaning.{column_expr}
+use Rattle.gp_check.specs.Scopes.{ColumnName, Source, may_be_of, only_place, place_behind, place_in, scope_behind}
 use Rattle.gp_check.specs.Typing as check
-use Rattle.gp_check.specs.Typing.{agrees, arithmetic, common_type, comparison, connective, is_number, is_value, operation}
+use Rattle.gp_check.specs.Typing.{arithmetic, comparison, connective, is_number, operation}
 use Rattle.gp_check.specs.TypingRules as r
 use Rattle.gp_check.specs.TypingRules.{HasType}
-use Rattle.gp_check.proofs.FittingLemmas.{holds_if}
-use Rattle.gp_sql.specs.declared.cell_type.CellType.{CellType}
-use Rattle.gp_sql.specs.declared.cell_type.CellType.TheVariants.{Null, Int, Text}
-use Rattle.gp_sql.specs.Types.{are_comparable, arithmetic_type, case_type, column_types, common, cond_is_typed, expr_type, is_numeric, kind_type, negation_type, type_at}
-use Rattle.gp_typed.specs.StatementTypes.{is_into, joined_types, table_types}
+use Rattle.gp_sql.specs.Types.{are_comparable, arithmetic_type, is_numeric, negation_type}
 use Rattle.gp_typed.proofs.TypeLists.{type_behind}
 
 -- the type of a value as that of an expression; a condition is none

@@ -1,14 +1,5 @@
 -- Lists of types: what can stand in columns, the types of unions, and of expressions and cells side by side.
-use Rattle.std.proofs.Common.{◌≡◌, ℕ, suc, true, List, [], ◌∷◌, ◌++◌, length, Some, None, refl, sym, ap, ◌∙◌, append_assoc, length-append, arith}
-use Rattle.std.specs.Prelude.{Option, slice_get}
-use Rattle.std.proofs.lemmas.Bool.{and_parts, and_from}
-use Rattle.gp_base.specs.declared.cell.Cell.{Cell}
-use Rattle.gp_expr.specs.Expressions.{Expr}
-use Rattle.gp_algebra.specs.Statements.{columns_behind}
-use Rattle.gp_sql.specs.declared.cell_type.CellType.{CellType}
-use Rattle.gp_sql.specs.declared.cell_type.CellType.TheVariants.{Null, Int, Text, Id, Mark}
-use Rattle.gp_sql.specs.Types.{cell_type, common, common_types, expr_type, exprs_types, product_types, row_types, with_first}
-use Rattle.gp_typed.specs.StatementTypes.{is_into, are_into}
+use Rattle.gp_typed.proofs.Prelude.{◌≡◌, ℕ, suc, true, List, [], ◌∷◌, ◌++◌, length, Some, None, refl, sym, ap, ◌∙◌, append_assoc, length-append, arith, Option, slice_get, and_parts, and_from, Cell, Expr, columns_behind, CellType, Null, Int, Text, Id, Mark, cell_type, common, common_types, expr_type, exprs_types, product_types, row_types, with_first, is_into, are_into}
 
 -- ---- what can stand in a column
 

@@ -1,4 +1,4 @@
-use Rattle.std.proofs.Common.{sym, ◌∙◌, ◌≡◌}
+use Rattle.std.proofs.Common.{sym, ◌∙◌}
 use Rattle.gp_base.specs.declared.token.Token.TheVariants.{Inserted}
 use Rattle.gp_semiring.proofs.SetLemmas.{walk_stops, walk_goes_on, walk_rises, token_rest}
 use Rattle.gp_semiring.proofs.token_set.are_within.Goals as goal

@@ -7,15 +7,15 @@ use Rattle.gp_algebra.specs.Answers.{values}
 use Rattle.gp_algebra.specs.Plain.{is_marked}
 use Rattle.gp_expr.specs.Views.{expr_view}
 use Rattle.gp_exec.specs.Evaluating.{found_rows}
-use Rattle.gp_exec.specs.Looking.{exprs_of, looked, made_rows}
+use Rattle.gp_exec.specs.PendingRows.{exprs_of, cell_there, made_rows}
 use Rattle.gp_exec.proofs.PublishingLemmas.{made_marked}
 use Rattle.gp_exec.proofs.pending.Pending.published.Goals as goal
 
 pub returns : goal.returns
 returns c =
     let pending = c.args.self.now in
-    let kept = filter (λ (row : List Cell). is_marked (looked pending.mark row)) (found_rows pending.rows) in
+    let kept = filter (λ (row : List Cell). is_marked (cell_there pending.mark row)) (found_rows pending.rows) in
     c.in_ok-values_on-in-Some.ensures
     ∙ (ap (map (values (map expr_view c.in-Some.exprs.now))) c.in_ok-marked.ensures
     ∙ (ap (λ (exprs : Option (Bor (List Expr))). made_rows (option_map (λ e. map expr_view e.now) exprs) kept) (sym c.in-Some.is)
-    ∙ made_marked c.args.at (exprs_of pending) (looked pending.mark) (found_rows pending.rows) c.requires.mark.cell))
+    ∙ made_marked c.args.at (exprs_of pending) (cell_there pending.mark) (found_rows pending.rows) c.requires.mark.cell))

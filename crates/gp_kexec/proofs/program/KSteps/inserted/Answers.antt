@@ -1,7 +1,7 @@
 use Rattle.std.proofs.Common.{◌≡◌, ◌++◌, List, map, subst}
 use Rattle.gp_algebra.specs.AnnotatedMeaning.{Derived, meaning}
 use Rattle.gp_algebra.specs.QueryViews.{annotated_view}
-use Rattle.gp_kexec.specs.declared.made.Made.{Made}
+use Rattle.gp_kexec.specs.declared.appended.Appended.{Appended}
 use Rattle.gp_exec.specs.declared.done.Done.{Done}
 use Rattle.gp_kexec.specs.declared.held.Held.{Held}
 use Rattle.gp_kexec.specs.Evaluating.{Holds, held_after}
@@ -21,5 +21,5 @@ returns-clause-rows g c =
     let made = c.in_ok-made.made in
     let holds : Holds made after = subst (λ (steps : List (Done (Held g.row.K.Denot))). Holds made (meaning kind (held_after steps) env (annotated_view c.args.right.now))) c.as_slice.ensures.value c.in_ok-made.ensures in
     IfOk-then c.onto.result
-    (λ (all : Made g.row.K.Denot). (before after : List (Derived g.row.K.Denot)) → map held_view c.in_ok-rows.rows.items ≡ before → Holds made after → Holds all (before ++ after))
-    (λ (all : Made g.row.K.Denot). Holds all (before ++ after)) (λ all onto. onto before after c.in_ok-rows.ensures.rows holds) c.onto.ensures
+    (λ (all : Appended g.row.K.Denot). (before after : List (Derived g.row.K.Denot)) → map held_view c.in_ok-rows.rows.items ≡ before → Holds made after → Holds all (before ++ after))
+    (λ (all : Appended g.row.K.Denot). Holds all (before ++ after)) (λ all onto. onto before after c.in_ok-rows.ensures.rows holds) c.onto.ensures
