@@ -1,4 +1,4 @@
--- The entry of a statement is the statement that the log has by its number.
+-- The log up to a place, and the statement that it has by a number.
 use Rattle.std.proofs.Common.{◌≡◌, ℕ, suc, ◌+◌, ◌<◌, ◌≤◌, Bool, true, false, cond, List, [], ◌∷◌, ◌++◌, Some, map, take, drop, refl, sym, ap, ◌∙◌, arith}
 use Rattle.std.specs.Prelude.{◌&&◌, ◌==◌, Option, reverse, slice_get}
 use Rattle.std.proofs.lemmas.List.{map-append, reverse-append, take-append-drop, take_more}
@@ -17,7 +17,7 @@ use Rattle.gp_log.proofs.EntryLemmas.{log-pushed}
 
 -- ---- a log up to a place
 
-log-more : (entries : List Entry) (place : ℕ) (entry : Entry) → slice_get entries place ≡ Some entry → log_view (take (place + 1) entries) ≡ entry_view entry ∷ log_view (take place entries)
+pub log-more : (entries : List Entry) (place : ℕ) (entry : Entry) → slice_get entries place ≡ Some entry → log_view (take (place + 1) entries) ≡ entry_view entry ∷ log_view (take place entries)
 log-more entries place entry is =
     ap log_view (take_more entries place entry (slice_get_within entries place entry is)
     ∙ ap (λ (e : Entry). take place entries ++ e ∷ []) (get_or_from_slice_get entries place entry entry is))
@@ -26,7 +26,7 @@ log-more entries place entry is =
 log-append : (older newer : List Entry) → log_view (older ++ newer) ≡ log_view newer ++ log_view older
 log-append older newer = ap (map entry_view) (reverse-append older newer) ∙ map-append entry_view (reverse newer) (reverse older)
 
-log-cut : (entries : List Entry) (place : ℕ) (entry : Entry) → slice_get entries place ≡ Some entry
+pub log-cut : (entries : List Entry) (place : ℕ) (entry : Entry) → slice_get entries place ≡ Some entry
     → log_view entries ≡ log_view (drop (place + 1) entries) ++ (entry_view entry ∷ log_view (take place entries))
 log-cut entries place entry is =
     sym (ap log_view (take-append-drop (place + 1) entries))
@@ -36,7 +36,7 @@ cond-least : (b : Bool) (n : ℕ) → n ≤ cond b (suc n) n
 cond-least true n = omega arith
 cond-least false n = omega arith
 
-count-least : (t : ℕ) (newer older : List m.Entry) → statement_count t older ≤ statement_count t (newer ++ older)
+pub count-least : (t : ℕ) (newer older : List m.Entry) → statement_count t older ≤ statement_count t (newer ++ older)
 count-least t [] older = omega arith
 count-least t (m.Created line session table ∷ newer) older = count-least t newer older
 count-least t (m.Began line session u level ∷ newer) older = count-least t newer older
@@ -54,7 +54,7 @@ passed true false here found wanted is e = e
 passed false same here found wanted is e = e
 
 -- a statement is found behind newer entries
-found-behind : (t k : ℕ) (newer older : List m.Entry) → k ≤ statement_count t older → statement_at t k (newer ++ older) ≡ statement_at t k older
+pub found-behind : (t k : ℕ) (newer older : List m.Entry) → k ≤ statement_count t older → statement_at t k (newer ++ older) ≡ statement_at t k older
 found-behind t k [] older most = refl
 found-behind t k (m.Created line session table ∷ newer) older most = found-behind t k newer older most
 found-behind t k (m.Began line session u level ∷ newer) older most = found-behind t k newer older most

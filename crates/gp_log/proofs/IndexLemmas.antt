@@ -5,7 +5,7 @@ use Rattle.std.proofs.lemmas.Bool.{cases_lt}
 use Rattle.std.proofs.lemmas.Bool.Decides.{nat_tests}
 use Rattle.std.proofs.lemmas.List.{get_or_append_left, length-append}
 use Rattle.gp_machine.specs.Entries as m
-use Rattle.gp_machine.specs.Entries.{begin_version, committer_of, fate_of, is_read_committed, statement_count, version_of, versions_in}
+use Rattle.gp_machine.specs.Entries.{begin_version, fate_of, is_read_committed, statement_count, version_of, versions_in}
 use Rattle.gp_log.specs.Indexing.{Knows, begun, known_of, unknown}
 use Rattle.gp_log.specs.Kinds.{commits}
 use Rattle.gp_log.specs.Logs.{what_view}

@@ -167,7 +167,7 @@ pub fn statement_of(entry: &Entry) -> Option<&Stmt>
     ensures { option_map (λ s. statement_view s.now) result ≡ statement_of (entry_view entry.now) }
 {
     match &entry.what {
-        What::Statement { stmt, .. } => Some(stmt),
+        What::Statement { stmt, .. } => Some(stmt.as_ref()),
         _ => None,
     }
 }
@@ -185,7 +185,7 @@ pub fn statement(entries: &[Entry], t: u32, k: u32) -> Option<&Stmt>
             What::Statement { stmt, .. } if entry.t == t => {
                 count += 1;
                 if count == k {
-                    found = Some(stmt);
+                    found = Some(stmt.as_ref());
                 }
             }
             _ => {}

@@ -102,8 +102,8 @@ fn ran_by(what: &What) -> u32
     }
 }
 
-/// Adds the table of an entry to the catalogue, if it creates one.
-fn add_created(catalog: &mut Catalog, what: &What) -> Result<(), NoMemory>
+/// Adds the table of an entry to the catalogue, if it creates one. If memory runs out, the catalogue is unchanged.
+pub fn add_created(catalog: &mut Catalog, what: &What) -> Result<(), NoMemory>
     requires { CreatesNew catalog.old what.now }
     ensures ok { OnOk result (catalog.new ≡ catalog.old ++ created_by what.now) }
     ensures err { OnErr result (catalog.new ≡ catalog.old) }
@@ -286,28 +286,18 @@ impl Log {
         }
     }
 
-    /// What has become of the transaction, or None if no transaction has this number.
-    pub fn fate(&self, t: u32) -> Option<Fate>
-        ensures { result ≡ numbered t (transactions_in (entries self.now))
-            (fate_of t (entries self.now)) }
+    /// What has become of the transaction. A number that no transaction has did not end.
+    pub fn fate(&self, t: u32) -> Fate
+        ensures { result ≡ fate_of t (entries self.now) }
     {
-        if 0 < t && t <= self.begun {
-            Some(self.known(t).fate)
-        } else {
-            None
-        }
+        self.known(t).fate
     }
 
-    /// The newest version when the transaction began, or None if no transaction has this number.
-    pub fn begin_version(&self, t: u32) -> Option<u32>
-        ensures { result ≡ numbered t (transactions_in (entries self.now))
-            (begin_version t (entries self.now)) }
+    /// The newest version when the transaction began, or 0 if no transaction has this number.
+    pub fn begin_version(&self, t: u32) -> u32
+        ensures { result ≡ begin_version t (entries self.now) }
     {
-        if 0 < t && t <= self.begun {
-            Some(self.known(t).begin)
-        } else {
-            None
-        }
+        self.known(t).begin
     }
 
     /// How many statements the transaction ran. A number that no transaction has ran none, in a log whose lines follow each

@@ -18,14 +18,13 @@ use Rattle.gp_versions.proofs.SpanLemmas.{ended_id}
 use Rattle.gp_versions.proofs.SameLemmas.{same-exact}
 use Rattle.gp_txn.specs.declared.carried.Carried.{Carried}
 use Rattle.gp_txn.specs.declared.overlay.TableWrites.{TableWrites}
-use Rattle.gp_txn.specs.Committing.{Commits, commit_of, spans_left, unmarked, view_below}
-use Rattle.gp_txn.specs.Counts.{count_rows, count_spans}
+use Rattle.gp_txn.specs.Committing.{Commits, commit_of, unmarked, view_below}
+use Rattle.gp_txn.specs.Counts.{count_rows}
 use Rattle.gp_txn.specs.Bases.{table_view}
 use Rattle.gp_txn.specs.Overlay.{Overlay, PlainRow, carried_row, carried_write, overlay_of, own_row, own_write, rows_below, slot_writes, table_writes}
 use Rattle.gp_txn.specs.Prepared.{AreWritesOf}
 use Rattle.gp_txn.specs.Transactions.{AreOthers, AreThere, HoldsOthers, HoldsOwn, HoldsThere, Writes, base_at, database_below, has_span, no_table, overlay_at, table_at, view_at, writes_at}
 use Rattle.gp_txn.proofs.CommitLemmas.{AreMadeBy, inserted-own, slots-all, writes-own}
-use Rattle.gp_txn.proofs.CountLemmas.{count-after}
 use Rattle.gp_txn.proofs.PairLemmas.{all-weaker}
 use Rattle.gp_txn.proofs.PlacedLemmas.{overlay-after}
 use Rattle.gp_txn.proofs.RebaseLemmas.{view-nowhere}
@@ -105,10 +104,6 @@ module _ (version : ℕ) (writes : Writes) (old new : List Versions) (same : len
             ap (λ (held : Versions). held.spans) (get_or-eq_default new no_table (subst (λ n. n ≤ place) (sym same) high))
             ∙ sym (λ i. after_commit version (commit-none writes old place read high there (empty place high) i) (get_or-eq_default old no_table high i).spans)
       ]
-
-  -- one more for each row that the commit leaves
-  pub spans-counted : count_spans new (length old) ≡ spans_left writes.tables old
-  spans-counted = count-after version (commit_of writes.tables old) old new (length old) commits.made.spans
 
 -- ---- whose rows they are
 

@@ -21,7 +21,7 @@ use Rattle.gp_txn.specs.Changes.{Change, update, delete, statement_at, rows_afte
 use Rattle.gp_txn.specs.Bases.{base_after, base_of, table_view}
 use Rattle.gp_txn.specs.Overlay.{Overlay, PlainRow, no_writes, overlay_of, own_row, rows_below, view_rows}
 use Rattle.gp_txn.specs.Rebasing.{IsMoved, or_writes, writes_over}
-use Rattle.gp_txn.specs.Transactions.{Applied, AreOthers, AreOwn, AreThere, HoldsOwn, KeepsOwn, Writes, base_at, has_written, table_at, view_at, writes_at}
+use Rattle.gp_txn.specs.Transactions.{Applied, AreOthers, AreOwn, AreThere, KeepsOwn, Writes, base_at, has_written, table_at, view_at, writes_at}
 use Rattle.gp_txn.specs.Applying.{Wrote, has_too_many_rows, has_too_many_nodes}
 use Rattle.gp_txn.specs.Inserting.{Prepares}
 use Rattle.gp_txn.specs.Slots.{changed_carried, changed_overlay, changed_table, count_touched, put_table, with_own}
@@ -55,12 +55,7 @@ put-all P k place new old within here others p =
       | inr apart ↦ subst (P p) (sym (put-other k place p new old apart)) (others p apart)
     ]
 
--- the rows of all tables stay the transaction's own
-pub put-owns : (k place : ℕ) (new : TableWrites) (old : Writes) → place < length old.tables → old.last ≤ k → HoldsOwn old → KeepsOwn old.t k new → HoldsOwn (put_table k place new old)
-put-owns k place new old within later holds mine =
-    put-all (λ p. KeepsOwn old.t k) k place new old within mine (λ p apart. keeps-later old.t old.last k (writes_at p old.tables) later (holds p))
-
--- the same of the tables alone
+-- what a transaction keeps of its own survives new writes of one table
 pub keeps-set : (t last k place : ℕ) (tables : List TableWrites) (new : TableWrites) → place < length tables → last ≤ k → ((p : ℕ) → KeepsOwn t last (writes_at p tables)) → KeepsOwn t k new
     → (p : ℕ) → KeepsOwn t k (writes_at p (slice_set tables place new))
 keeps-set t last k place tables new within later holds mine p =

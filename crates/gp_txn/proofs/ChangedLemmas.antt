@@ -17,7 +17,7 @@ use Rattle.gp_txn.specs.Changes.{Change, cond_of, touched}
 use Rattle.gp_txn.specs.Enough.{IsEnough}
 use Rattle.gp_txn.specs.Overlay.{PlainRow, has_slot, is_carried, overlaid, overlay_of, rows_below, slot_at, slots_from, slotted, slotted_spans}
 use Rattle.gp_txn.specs.Passes.{made_of_place, row_entry, row_touched}
-use Rattle.gp_txn.specs.Slots.{changed_carried, changed_from, changed_overlay, changed_own, changed_slot, changed_slots, changed_table, count_touched, entry, slot_seen}
+use Rattle.gp_txn.specs.Slots.{changed_carried, changed_from, changed_overlay, changed_own, changed_slot, changed_slots, changed_table, cells_seen, count_touched, entry, slot_of}
 use Rattle.gp_txn.proofs.OverlayLemmas.{carried-same, touched-made}
 use Rattle.gp_txn.proofs.PairLemmas.{all-map, all-weaker}
 use Rattle.gp_txn.proofs.PlacedLemmas.{above-none, anywhere, made-places, made_from, places-made, slots-agree}
@@ -124,7 +124,7 @@ overlay-changed change spans writes =
 module _ (change : Change) (carried : List Carried) (v : ℕ) (spans : List Span) (placed : List Placed) (places : List ℕ) (enough : IsEnough (passes (cond_of change)) placed v spans places) where
   pub changed-places : flat_map (made_of_place (row_entry change) carried v placed spans) places ≡ changed_from change carried v placed 0 spans
   changed-places =
-      made-places (row_entry change) carried v placed spans (passes (cond_of change)) places (λ p span none. ap (λ b. entry p (cond b (slot_seen change (Some span.row)) Same)) none) enough ∙ changed-made change carried v placed 0 spans
+      made-places (row_entry change) carried v placed spans (passes (cond_of change)) places (λ p span none. ap (λ b. entry p (cond b (slot_of (cells_seen change (Some span.row))) Same)) none) enough ∙ changed-made change carried v placed 0 spans
 
   pub touched-places : length (flat_map (made_of_place (anywhere (row_touched change)) carried v placed spans) places) ≡ count_touched change (overlaid (slots_from carried v placed 0 spans) (slotted carried (rows_at unannotated v spans)))
   touched-places =

@@ -1,6 +1,6 @@
 -- The least row that a transaction and a later commit wrote.
 use Rattle.std.proofs.Common.{◌≡◌, ℕ, ◌+◌, true, false, cond, List, [], ◌∷◌, ◌++◌, drop, map, Option, Some, None, refl, ap, sym, ◌∙◌, subst, inl, inr}
-use Rattle.std.specs.List.{cons_option, filter_map, flat_map}
+use Rattle.std.specs.List.{flat_map}
 use Rattle.std.specs.Option.{option_to_list}
 use Rattle.std.specs.declared.cmp.Ordering.{Ordering}
 use Rattle.std.specs.declared.cmp.Ordering.TheVariants.{Less, Equal, Greater}
@@ -14,7 +14,7 @@ use Rattle.gp_txn.specs.declared.carried.Carried.{Carried}
 use Rattle.gp_txn.specs.declared.overlay.Slot.{Slot}
 use Rattle.gp_txn.specs.declared.conflict.Late.{Late}
 use Rattle.gp_txn.specs.Overlay.{head_slot, slots_from, slotted_spans}
-use Rattle.gp_txn.specs.Conflicts.{IsLeast, carried_late, late_of, slot_lates}
+use Rattle.gp_txn.specs.Conflicts.{IsLeast, late_of, slot_lates}
 use Rattle.gp_txn.specs.LeastSoFar.{least_of, lesser}
 use Rattle.gp_txn.specs.declared.overlay.Placed.{Placed}
 use Rattle.gp_txn.specs.Ascending.{IsAscending, place_of}
@@ -24,28 +24,15 @@ use Rattle.gp_txn.proofs.PutLemmas.{cons_option-is}
 
 -- ---- the loops
 
-pub least-cons : (found late : Option Late) (lates : List Late) → least_of found (cons_option late lates) ≡ least_of (lesser found late) lates
-least-cons None None lates = refl
-least-cons (Some first) None lates = refl
-least-cons found (Some late) lates = refl
-
 pub least-append : (found : Option Late) (xs ys : List Late) → least_of found (xs ++ ys) ≡ least_of (least_of found xs) ys
 least-append found [] ys = refl
 least-append found (x ∷ xs) ys = least-append (lesser found (Some x)) xs ys
-
-pub least-one : (found late : Option Late) → least_of found (option_to_list late) ≡ lesser found late
-least-one None None = refl
-least-one (Some first) None = refl
-least-one found (Some late) = refl
 
 -- of all rows with a slot
 pub lates-made : (slots : List Slot) (spans : List Span) → made_of row_lates slots spans ≡ slot_lates slots spans
 lates-made slots [] = refl
 lates-made slots (span ∷ spans) =
     ap (λ (rest : List Late). option_to_list (late_of (head_slot slots) span) ++ rest) (lates-made (drop 1 slots) spans) ∙ sym (cons_option-is (late_of (head_slot slots) span) (slot_lates (drop 1 slots) spans))
-
-pub least-carried : (found : Option Late) (spans : List Span) (row : Carried) (rows : List Carried) → least_of found (filter_map (carried_late spans) (row ∷ rows)) ≡ least_of (lesser found (carried_late spans row)) (filter_map (carried_late spans) rows)
-least-carried found spans row rows = least-cons found (carried_late spans row) (filter_map (carried_late spans) rows)
 
 -- ---- the least
 

@@ -4,18 +4,15 @@ use Rattle.std.specs.List.{list_all}
 use Rattle.std.proofs.lemmas.Bool.{and_parts, and_from}
 use Rattle.gp_base.specs.declared.table.Table.{Table}
 use Rattle.gp_base.specs.UserCells.{is_user_cell}
-use Rattle.gp_expr.specs.Expressions.{Expr, Cond}
-use Rattle.gp_expr.specs.ExpressionForms.{is_simple, cond_is_simple, all_leaves, cond_all_leaves}
+use Rattle.gp_expr.specs.Expressions.{Cond}
+use Rattle.gp_expr.specs.ExpressionForms.{is_simple, cond_is_simple, cond_all_leaves}
 use Rattle.gp_algebra.specs.Statements.{SetExpr, Branch, Select, Statement, insert, insert_select, update, delete, read}
 use Rattle.gp_algebra.specs.Fitting.{is_there, is_countable, is_column, joined_width, row_fits, set_fits, expr_fits, cond_fits, optional_cond_fits, branch_fits, branches_fit, select_fits, select_width, statement_fits}
 use Rattle.gp_algebra.specs.Statements.{width_of}
 use Rattle.gp_algebra.specs.Simple.{select_is_simple}
-use Rattle.gp_algebra.proofs.SimpleLemmas.{fitting_query-simple, fitting_insert-simple}
+use Rattle.gp_algebra.proofs.SimpleLemmas.{fitting_query-simple, fitting_insert-simple, expr-simple}
 use Rattle.gp_txn.specs.Applying.{is_applicable, is_readable, reads_below}
 use Rattle.gp_base.proofs.SmallLemmas.{all_weaker}
-
-expr-simple : (width : ℕ) (e : Expr) → expr_fits width e ≡ true → is_simple e ≡ true
-expr-simple width e fits = (and_parts (is_simple e) (all_leaves (is_column width) is_user_cell e) fits).0
 
 cond-simple : (width : ℕ) (c : Cond) → cond_fits width c ≡ true → cond_is_simple c ≡ true
 cond-simple width c fits = (and_parts (cond_is_simple c) (cond_all_leaves (is_column width) is_user_cell c) fits).0

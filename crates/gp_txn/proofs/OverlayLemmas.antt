@@ -1,8 +1,8 @@
 -- What a transaction sees over its writes after an UPDATE, a DELETE or an INSERT.
-use Rattle.std.proofs.Common.{◌≡◌, ℕ, ◌+◌, true, false, cond, not, ◌||◌, Option, Some, None, List, [], ◌∷◌, ◌++◌, map, drop, length, refl, ap, sym, ◌∙◌}
+use Rattle.std.proofs.Common.{◌≡◌, ℕ, ◌+◌, true, false, cond, not, ◌||◌, Option, Some, None, List, [], ◌∷◌, ◌++◌, map, drop, refl, ap, sym, ◌∙◌}
 use Rattle.std.specs.List.{cons_option, filter, filter_map}
 use Rattle.std.specs.Option.{option_to_list}
-use Rattle.std.proofs.lemmas.List.{map-append, append_assoc, length-append}
+use Rattle.std.proofs.lemmas.List.{map-append, append_assoc}
 use Rattle.std.proofs.lemmas.List.Elements.{filter-append}
 use Rattle.gp_base.specs.declared.cell.Cell.{Cell}
 use Rattle.gp_base.specs.declared.stored.Stored.{Stored}
@@ -18,7 +18,7 @@ use Rattle.gp_txn.specs.declared.overlay.Slot.{Slot}
 use Rattle.gp_txn.specs.declared.overlay.Slot.TheVariants.{Same, Put, Dropped}
 use Rattle.gp_txn.specs.Changes.{Change, update, delete, cond_of, rows_after, touched}
 use Rattle.gp_txn.specs.Overlay.{Overlay, PlainRow, carried_row, is_carried, head_slot, shown, slotted, overlaid, own_row, overlay_of, view_rows}
-use Rattle.gp_txn.specs.Slots.{carried_after, changed_carried, changed_overlay, effect, is_touched, changed_slot, changed_slots, passes_seen, stored_after, changed_own, count_touched, one_if, with_own}
+use Rattle.gp_txn.specs.Slots.{carried_after, changed_carried, changed_overlay, effect, changed_slot, changed_slots, stored_after, changed_own, with_own}
 use Rattle.gp_txn.specs.Passes.{row_touched}
 use Rattle.gp_txn.specs.declared.overlay.TableWrites.{TableWrites}
 use Rattle.gp_txn.proofs.PlacedLemmas.{made_of}
@@ -97,7 +97,7 @@ pub carried-same : (change : Change) (carried : List Carried) (id : Identity) �
 carried-same change [] id = refl
 carried-same change (row ∷ rows) id = ap (λ b. same_identity row.id id || b) (carried-same change rows id)
 
--- the same rows have a slot
+-- a change of carried rows gives a slot to no other row, and takes none away
 pub slotted-same : (change : Change) (carried : List Carried) (base : List PlainRow) → slotted (changed_carried change carried) base ≡ slotted carried base
 slotted-same change carried base = λ i. filter (λ (row : PlainRow). not (carried-same change carried row.identity i)) base
 
@@ -112,25 +112,6 @@ view-changed t k change writes base =
     ∙ (λ i. overlaid-changed t k change writes.slots (slotted writes.carried base) i ++ (carried-changed t k change writes.carried i ++ own-changed t k change writes.own i))
     ∙ ap (λ others. rows_after unannotated t k change slots ++ others) (sym (rows_after-append t k change rows own))
     ∙ sym (rows_after-append t k change slots (rows ++ own))
-
--- ---- how many rows they write
-
-pub count-append : (change : Change) (xs ys : List PlainRow) → count_touched change (xs ++ ys) ≡ count_touched change xs + count_touched change ys
-count-append change xs ys =
-    ap length (filter-append (λ (row : PlainRow). passes (cond_of change) row.cells) xs ys) ∙ length-append (touched change xs) (touched change ys)
-
-count-one : (change : Change) (row : PlainRow) → count_touched change (row ∷ []) ≡ one_if (passes (cond_of change) row.cells)
-count-one change row = elim (passes (cond_of change) row.cells) as (λ b. length (cond b (row ∷ []) []) ≡ one_if b) [ true ↦ refl | false ↦ refl ]
-
-pub count-shown : (change : Change) (slot : Slot) (row : PlainRow) → count_touched change (shown slot row) ≡ one_if (is_touched change slot row.cells)
-count-shown change Same row = count-one change row
-count-shown change (Put now) row = count-one change (put_row now row)
-count-shown change Dropped row = refl
-
--- of a row that was written over an earlier version
-pub count-carried : (change : Change) (carried : Carried) (cells : Option (List Cell)) → carried.row ≡ cells → count_touched change (option_to_list (carried_row carried)) ≡ one_if (passes_seen change cells)
-count-carried change carried None is = rw is refl
-count-carried change carried (Some cells) is = rw is (count-one change (record { identity = carried.id; cells = cells; mark = true; annotation = tt }))
 
 -- ---- of all rows with a slot
 

@@ -9,16 +9,15 @@ use Rattle.gp_base.specs.declared.cell.Cell.{Cell}
 use Rattle.gp_base.proofs.SmallLemmas.{eq_itself, eq_turned, left_true, not_eq}
 use Rattle.gp_versions.specs.declared.span.Span.{Span}
 use Rattle.gp_versions.specs.declared.span.Write.{Write}
-use Rattle.gp_versions.specs.Commits.{after_commit, begun, ended, is_open, is_written}
-use Rattle.gp_versions.specs.Spans.{holds_at, is_before_end, spans_at}
-use Rattle.gp_versions.proofs.SpanLemmas.{ended_from, ended_id, ended_to}
+use Rattle.gp_versions.specs.Commits.{after_commit, begun, ended, is_written}
+use Rattle.gp_versions.specs.Spans.{holds_at, spans_at}
+use Rattle.gp_versions.proofs.SpanLemmas.{ended_from, ended_id, ended_to, end-before}
 use Rattle.gp_txn.specs.declared.carried.Carried.{Carried}
 use Rattle.gp_txn.specs.declared.overlay.Placed.{Placed}
 use Rattle.gp_txn.specs.declared.overlay.Slot.{Slot}
 use Rattle.gp_txn.specs.declared.overlay.Slot.TheVariants.{Same}
 use Rattle.gp_txn.specs.declared.overlay.TableWrites.{TableWrites}
 use Rattle.gp_txn.specs.Ascending.{IsAscending, place_of}
-use Rattle.gp_txn.specs.Conflicts.{late_of, slot_lates}
 use Rattle.gp_txn.specs.Enough.{IsEnough, first_at, if_slotted, is_among, seek, slotted_at}
 use Rattle.gp_txn.specs.Overlay.{PlainRow, base_writes, has_slot, head_slot, is_carried, overlaid, overlay_of, shown, slot_at, slot_write, slots_from, slotted_spans}
 use Rattle.gp_txn.specs.Passes.{of_entry, made_of_place, made_of_slot}
@@ -47,10 +46,6 @@ overlaid-same slots (row ∷ rows) all = let parts = same-parts slots all in λ 
 pub writes-same : (slots : List Slot) (rows : List PlainRow) → AreSame slots → base_writes slots rows ≡ []
 writes-same slots [] all = refl
 writes-same slots (row ∷ rows) all = let parts = same-parts slots all in λ i. cons_option (slot_write (parts.0 i) row) (writes-same (drop 1 slots) rows parts.1 i)
-
-pub lates-same : (slots : List Slot) (spans : List Span) → AreSame slots → slot_lates slots spans ≡ []
-lates-same slots [] all = refl
-lates-same slots (span ∷ spans) all = let parts = same-parts slots all in λ i. cons_option (late_of (parts.0 i) span) (lates-same (drop 1 slots) spans parts.1 i)
 
 -- ---- slots by place
 
@@ -235,11 +230,6 @@ module _ {X : Type 0} (make : Slot → Span → List X) (carried : List Carried)
   places-made test places nothing enough = made-places (anywhere make) carried version placed spans test places (λ p span none. nothing span none) enough ∙ made-dense make carried version placed 0 spans
 
 -- ---- after a commit
-
-end-before : (v version : ℕ) (b : Bool) (to : Option ℕ) → v < version → is_before_end v (cond (is_open to && b) (Some version) to) ≡ is_before_end v to
-end-before v version true None early = lt-ltb v version early
-end-before v version false None early = refl
-end-before v version b (Some to) early = refl
 
 module _ (version : ℕ) (list : List Write) (carried : List Carried) (placed : List Placed) (v : ℕ) (early : v < version) where
   has-ended : (span : Span) → has_slot carried v (ended version list span) ≡ has_slot carried v span

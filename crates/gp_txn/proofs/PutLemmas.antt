@@ -1,5 +1,5 @@
 -- The loop that counts the rows that a commit puts in place of the rows that have a slot, and the rows of all writes.
-use Rattle.std.proofs.Common.{◌≡◌, ℕ, suc, ◌+◌, ◌≤◌, List, [], ◌++◌, ◌∷◌, Option, Some, None, map, drop, length, refl, ap, sym, ◌∙◌, arith}
+use Rattle.std.proofs.Common.{◌≡◌, ℕ, suc, ◌+◌, List, [], ◌++◌, ◌∷◌, Option, Some, None, map, drop, length, refl, ap, sym, ◌∙◌, arith}
 use Rattle.std.specs.List.{cons_option, filter_map, flat_map}
 use Rattle.std.specs.Option.{option_to_list}
 use Rattle.gp_base.specs.declared.cell.Cell.{Cell}
@@ -12,9 +12,7 @@ use Rattle.gp_versions.specs.Commits.{live_rows}
 use Rattle.gp_versions.specs.Spans.{row_of, rows_at}
 use Rattle.gp_txn.specs.declared.carried.Carried.{Carried}
 use Rattle.gp_txn.specs.declared.overlay.Slot.{Slot}
-use Rattle.gp_txn.specs.declared.overlay.Slot.TheVariants.{Same, Put, Dropped}
 use Rattle.gp_txn.specs.Overlay.{Overlay, PlainRow, base_writes, carried_row, carried_write, head_slot, own_write, slot_write, slot_writes, slots_from, slotted, slotted_spans, table_writes}
-use Rattle.gp_txn.specs.Slots.{put_count}
 use Rattle.gp_txn.specs.declared.overlay.Placed.{Placed}
 use Rattle.gp_txn.specs.Ascending.{IsAscending, place_of}
 use Rattle.gp_txn.specs.Passes.{of_entry, row_writes}
@@ -31,16 +29,6 @@ writes-made slots [] = refl
 writes-made slots (span ∷ spans) =
     ap (λ (rest : List Write). option_to_list (slot_write (head_slot slots) (row_of unannotated span)) ++ rest) (writes-made (drop 1 slots) spans)
     ∙ sym (cons_option-is (slot_write (head_slot slots) (row_of unannotated span)) (base_writes (drop 1 slots) (map (row_of unannotated) spans)))
-
-pub put-counted : (slot : Slot) (span : Span) → length (live_rows unannotated (row_writes slot span)) ≡ put_count slot
-put-counted Same span = refl
-put-counted (Put cells) span = refl
-put-counted Dropped span = refl
-
-pub put-few : (slot : Slot) → put_count slot ≤ 1
-put-few Same = omega arith
-put-few (Put cells) = omega arith
-put-few Dropped = omega arith
 
 length-own : (own : List Stored) → length (live_rows unannotated (map own_write own)) ≡ length own
 length-own [] = refl

@@ -150,34 +150,6 @@ module _ (version : ℕ) (writes : Overlay) (base : List PlainRow) where
       ∙ base-first (is_written (slot_writes writes base) id) (carried_base writes.carried id)
       (λ written. carried-none writes.carried id (written-uncarried writes base id written))
 
--- ---- the rows that it wrote and sees are the same at each version
-
-all-unmarked : (p : PlainRow → Bool) (rows : List PlainRow) → AreUnmarked rows → marked (filter p rows) ≡ []
-all-unmarked p [] all = refl
-all-unmarked p (row ∷ rows) all = one-unmarked (p row) row (filter p rows) all.0 (all-unmarked p rows all.1)
-  where
-    one-unmarked : (b : Bool) (first : PlainRow) (others : List PlainRow) → first.mark ≡ false → marked others ≡ [] → marked (cond b (first ∷ others) others) ≡ []
-    one-unmarked true first others is none = rw is none
-    one-unmarked false first others is none = none
-
-twice-one : (b : Bool) (row : PlainRow) (others : List PlainRow) → row.mark ≡ b → marked others ≡ others → marked (cond b (row ∷ others) others) ≡ cond b (row ∷ others) others
-twice-one true row others is same = ap (λ c. cond c (row ∷ marked others) (marked others)) is ∙ ap (λ (rest : List PlainRow). row ∷ rest) same
-twice-one false row others is same = same
-
-marked-twice : (rows : List PlainRow) → marked (marked rows) ≡ marked rows
-marked-twice [] = refl
-marked-twice (row ∷ rows) = twice-one row.mark row (marked rows) refl (marked-twice rows)
-
-pub marks-at : (table : Overlay) (spans : List Span) (version : ℕ) → marked (table_view table spans version) ≡ marked (view_rows table (rows_below table spans))
-marks-at table spans version =
-    let below = rows_below table spans in
-    elim (version == table.version) as (λ same. (version == table.version) ≡ same → marked (cond same (view_rows table (rows_at unannotated version spans)) (refreshed table below (rows_at unannotated version spans))) ≡ marked (view_rows table below)) [
-      | true ↦ λ is. ap (λ v. marked (view_rows table (rows_at unannotated v spans))) (eqb-true version table.version is)
-      | false ↦ λ is.
-          filter-append (λ (row : PlainRow). row.mark) (filter (λ row. is_none (base_of table below row.identity)) (rows_at unannotated version spans)) (marked (view_rows table below))
-          ∙ (λ i. all-unmarked (λ (row : PlainRow). is_none (base_of table below row.identity)) (rows_at unannotated version spans) (unmarked-spans (spans_at version spans)) i ++ marked-twice (view_rows table below) i)
-    ] refl
-
 -- ---- the rows of the table
 
 there-more : (first : Span) (spans others : List Span) → AllByRecursion (λ (span : Span). has_span spans span.id ≡ true) others → AllByRecursion (λ (span : Span). has_span (first ∷ spans) span.id ≡ true) others

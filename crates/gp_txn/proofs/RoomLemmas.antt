@@ -22,7 +22,7 @@ overlaid-few slots [] = omega arith
 overlaid-few slots (row ∷ rows) =
     omega (arith, length-append (shown (head_slot slots) row) (overlaid (drop 1 slots) rows), length-shown (head_slot slots) row, overlaid-few (drop 1 slots) rows)
 
-filter-few : {X : Type 0} (p : X → Bool) (xs : List X) → length (filter p xs) ≤ length xs
+pub filter-few : {X : Type 0} (p : X → Bool) (xs : List X) → length (filter p xs) ≤ length xs
 filter-few p [] = omega arith
 filter-few p (x ∷ xs) = let rest = filter-few p xs in elim (p x) as (λ b. length (cond b (x ∷ filter p xs) (filter p xs)) ≤ length (x ∷ xs)) [ true ↦ omega (arith, rest) | false ↦ omega (arith, rest) ]
 

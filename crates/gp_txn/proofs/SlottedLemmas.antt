@@ -1,5 +1,5 @@
 -- The spans of the rows that have a slot.
-use Rattle.std.proofs.Common.{◌≡◌, ℕ, true, false, cond, not, List, ◌∷◌, map, ap, ◌∙◌}
+use Rattle.std.proofs.Common.{◌≡◌, ℕ, not, List, map}
 use Rattle.std.specs.List.{filter}
 use Rattle.gp_base.specs.Annotated.{unannotated}
 use Rattle.gp_versions.specs.declared.span.Span.{Span}
@@ -11,13 +11,6 @@ use Rattle.gp_base.proofs.SmallLemmas.{filter-map}
 -- of the spans of a version, those of rows with a slot
 abbrev pub free_spans : List Carried → List Span → List Span
 free_spans carried spans = filter (λ (span : Span). not (is_carried carried span.id)) spans
-
-module _ (carried : List Carried) (span : Span) (spans list : List Span) (is : list ≡ span ∷ spans) where
-  pub spans-held : is_carried carried span.id ≡ false → free_spans carried list ≡ span ∷ free_spans carried spans
-  spans-held free = ap (free_spans carried) is ∙ ap (λ b. cond (not b) (span ∷ free_spans carried spans) (free_spans carried spans)) free
-
-  pub spans-passed : is_carried carried span.id ≡ true → free_spans carried list ≡ free_spans carried spans
-  spans-passed passed = ap (free_spans carried) is ∙ ap (λ b. cond (not b) (span ∷ free_spans carried spans) (free_spans carried spans)) passed
 
 -- they are the rows of these spans
 pub rows-spans : (carried : List Carried) (v : ℕ) (spans : List Span) → slotted carried (rows_at unannotated v spans) ≡ map (row_of unannotated) (slotted_spans carried v spans)

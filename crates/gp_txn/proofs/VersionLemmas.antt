@@ -136,7 +136,7 @@ module _ (version : ℕ) (writes : Writes) (old new : List Versions) (first : 1 
   pub commits : IsFirstConflict (length old) (lates_at writes.tables old) None → spans_left writes.tables old ≤ MAX_SPANS → Commits version writes old new
   commits none few = record { made = record { first = none; few = few; spans = spans }; older = older; newest = newest; below = below }
 
-  -- the same of the tables that the code took from the transaction
+  -- commits over a list that equals the tables of the transaction, as the code has taken it
   pub commits-of : (tables : List TableWrites) → tables ≡ writes.tables → IsFirstConflict (length old) (lates_at tables old) None → spans_left tables old ≤ MAX_SPANS → Commits version writes old new
   commits-of tables of-tables none few =
       commits (λ place low. sym (λ i. lates_at (of-tables i) old place) ∙ none place low) (subst (λ n. n ≤ MAX_SPANS) (λ i. spans_left (of-tables i) old) few)

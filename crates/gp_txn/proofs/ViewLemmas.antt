@@ -1,7 +1,6 @@
 -- Loops that make the rows that a transaction sees, and that count them.
-use Rattle.std.proofs.Common.{◌≡◌, ℕ, ◌+◌, ◌≤◌, cond, List, [], ◌∷◌, ◌++◌, map, drop, length, refl, ap, sym, ◌∙◌, arith, Option, None}
+use Rattle.std.proofs.Common.{◌≡◌, ℕ, ◌+◌, cond, List, [], ◌∷◌, ◌++◌, map, drop, length, refl, ap, sym, ◌∙◌, arith, Option, None}
 use Rattle.std.specs.List.{filter_map, flat_map}
-use Rattle.std.specs.Option.{option_to_list}
 use Rattle.std.proofs.lemmas.List.{map-append, append_assoc, length-append}
 use Rattle.std.proofs.lemmas.List.Elements.{filter-append}
 use Rattle.gp_base.specs.declared.stored.Stored.{Stored}
@@ -20,10 +19,9 @@ use Rattle.gp_txn.specs.Ascending.{IsAscending, place_of}
 use Rattle.gp_txn.specs.Enough.{IsEnough}
 use Rattle.gp_txn.specs.Passes.{of_entry, made_of_place, row_dropped, row_wanted}
 use Rattle.gp_txn.specs.Wanted.{wanted, wanted_own}
-use Rattle.gp_txn.proofs.OverlayLemmas.{filter_map-one}
 use Rattle.gp_txn.proofs.PlacedLemmas.{anywhere, entries-made, made_of, places-made}
 use Rattle.gp_txn.proofs.SlottedLemmas.{rows-spans}
-use Rattle.gp_base.proofs.SmallLemmas.{filter-map, length-map}
+use Rattle.gp_base.proofs.SmallLemmas.{filter-map}
 
 pub wanted-all : (rows : List PlainRow) → wanted None rows ≡ rows
 wanted-all [] = refl
@@ -45,11 +43,6 @@ own-stored (stored ∷ own) = ap (λ (others : List Stored). stored ∷ others) 
 own-wanted : (c : Option Cond) (own : List Stored) → map stored_of (wanted c (map own_row own)) ≡ wanted_own c own
 own-wanted c own = ap (λ (rows : List PlainRow). map stored_of rows) (filter-map (λ (row : PlainRow). passes_where c row.cells) own_row own) ∙ own-stored (wanted_own c own)
 
-pub carried-wanted : (c : Option Cond) (carried : Carried) (others : List Carried)
-    → map stored_of (wanted c (filter_map carried_row (carried ∷ others))) ≡ map stored_of (wanted c (option_to_list (carried_row carried))) ++ map stored_of (wanted c (filter_map carried_row others))
-carried-wanted c carried others =
-    ap (λ (rows : List PlainRow). map stored_of (wanted c rows)) (filter_map-one carried_row carried others) ∙ wanted-append c (option_to_list (carried_row carried)) (filter_map carried_row others)
-
 pub view-stored : (c : Option Cond) (writes : Overlay) (base : List PlainRow)
     → map stored_of (wanted c (view_rows writes base))
     ≡ (map stored_of (wanted c (overlaid writes.slots (slotted writes.carried base))) ++ map stored_of (wanted c (filter_map carried_row writes.carried))) ++ wanted_own c writes.own
@@ -59,13 +52,6 @@ view-stored c writes base =
     wanted-append c slots (rows ++ map own_row writes.own)
     ∙ ap (λ (others : List Stored). map stored_of (wanted c slots) ++ others) (wanted-append c rows (map own_row writes.own) ∙ ap (λ (others : List Stored). map stored_of (wanted c rows) ++ others) (own-wanted c writes.own))
     ∙ sym (append_assoc (map stored_of (wanted c slots)) (map stored_of (wanted c rows)) (wanted_own c writes.own))
-
--- how many rows it sees
-pub view-counted : (writes : Overlay) (base : List PlainRow) → length (view_rows writes base) ≡ length (overlaid writes.slots (slotted writes.carried base)) + length (filter_map carried_row writes.carried) + length writes.own
-view-counted writes base =
-    let slots = overlaid writes.slots (slotted writes.carried base) in
-    let rows = filter_map carried_row writes.carried in
-    omega (arith, length-append slots (rows ++ map own_row writes.own), length-append rows (map own_row writes.own), length-map own_row writes.own)
 
 pub length-shown : (slot : Slot) (row : PlainRow) → length (shown slot row) + dropped_count slot ≡ 1
 length-shown Same row = refl
@@ -89,11 +75,6 @@ dropped-made slots (span ∷ spans) =
       length-shown (head_slot slots) (row_of unannotated span),
       dropped-made (drop 1 slots) spans,
     )
-
-pub dropped-few : (slot : Slot) → dropped_count slot ≤ 1
-dropped-few Same = omega arith
-dropped-few (Put cells) = omega arith
-dropped-few Dropped = omega arith
 
 pub dropped-entries : (carried : List Carried) (v : ℕ) (spans : List Span) (placed : List Placed) → IsAscending (map place_of placed)
     → length (flat_map (of_entry row_dropped carried v spans) placed) + length (overlaid (slots_from carried v placed 0 spans) (slotted carried (rows_at unannotated v spans))) ≡ length (slotted_spans carried v spans)

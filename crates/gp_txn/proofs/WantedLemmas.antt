@@ -1,13 +1,10 @@
 -- The answer of a query depends only on the rows that it wants.
 use Rattle.std.proofs.Common.{◌≡◌, ℕ, Bool, true, false, cond, List, [], ◌∷◌, ◌++◌, map, refl, ap, sym, ◌∙◌, Option, None}
-use Rattle.std.specs.List.{filter, flat_map, list_all}
-use Rattle.std.proofs.lemmas.Bool.{and_parts}
+use Rattle.std.specs.List.{filter, flat_map}
 use Rattle.std.proofs.lemmas.List.{append-nil}
 use Rattle.gp_base.specs.Annotated.{unannotated, Database}
 use Rattle.gp_expr.specs.Expressions.{Cond}
-use Rattle.gp_expr.specs.ExpressionForms.{is_simple}
 use Rattle.gp_algebra.specs.Statements.{Branch, Select}
-use Rattle.gp_algebra.specs.Simple.{branch_is_simple, select_is_simple, where_is_simple}
 use Rattle.gp_algebra.specs.Answers.{Element, values, passes_where, joined, no_choice, answer}
 use Rattle.gp_txn.specs.Overlay.{PlainRow}
 use Rattle.gp_txn.specs.Wanted.{table_where, row_where, wanted}
@@ -45,18 +42,3 @@ pub answer-wanted : (select : Select) (db : Database (Unit {0})) → answer unan
 answer-wanted [] db = ap (answer unannotated []) (all-wanted db)
 answer-wanted (branch ∷ []) db = branch-wanted branch branch.from db refl
 answer-wanted (branch ∷ other ∷ select) db = ap (answer unannotated (branch ∷ other ∷ select)) (all-wanted db)
-
--- ---- its condition
-
-table-simple : (from : List ℕ) (c : Option Cond) → where_is_simple c ≡ true → where_is_simple (table_where from c) ≡ true
-table-simple [] c is = refl
-table-simple (table ∷ []) c is = is
-table-simple (table ∷ other ∷ from) c is = refl
-
-branches-simple : (select : Select) → list_all branch_is_simple select ≡ true → where_is_simple (row_where select) ≡ true
-branches-simple [] is = refl
-branches-simple (branch ∷ []) is = table-simple branch.from branch.cond (and_parts (list_all is_simple branch.items) (where_is_simple branch.cond) (and_parts (branch_is_simple branch) true is).0).1
-branches-simple (branch ∷ other ∷ select) is = refl
-
-pub row-simple : (select : Select) → select_is_simple select ≡ true → where_is_simple (row_where select) ≡ true
-row-simple select is = branches-simple select (and_parts _ (list_all branch_is_simple select) is).1

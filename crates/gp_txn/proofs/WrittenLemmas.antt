@@ -48,10 +48,6 @@ own-identity t (row ∷ rows) id other all =
 
 -- ---- UPDATE and DELETE
 
-or-none : (e : Bool) → (e || false) ≡ (false || (e || false))
-or-none true = refl
-or-none false = refl
-
 or-both : (e : Bool) → (e || false) ≡ ((e || false) || (e || false))
 or-both true = refl
 or-both false = refl

@@ -15,14 +15,19 @@ use Rattle.gp_txn.specs.Overlay.{Overlay, PlainRow, has_slot, head_slot, slot_at
 use Rattle.gp_txn.specs.Transactions.{Writes}
 use Rattle.gp_versions.specs.declared.span.Span.{Span}
 
--- what the statement does to a row of these cells that passes its condition
-abbrev pub slot_for : Change → List Cell → Slot
-slot_for (update sets cond) cells = Put (assigned sets cells)
-slot_for (delete cond) cells = Dropped
+-- the cells of a row after the statement, which writes it
+abbrev pub cells_for : Change → List Cell → Option (List Cell)
+cells_for (update sets cond) cells = Some (assigned sets cells)
+cells_for (delete cond) cells = None
+
+-- the slot of a row that was written, with these cells
+abbrev pub slot_of : Option (List Cell) → Slot
+slot_of (Some cells) = Put cells
+slot_of None = Dropped
 
 -- what it does to a row of these cells
 abbrev pub effect : Change → List Cell → Slot
-effect change cells = if passes (cond_of change) cells then slot_for change cells else Same
+effect change cells = if passes (cond_of change) cells then slot_of (cells_for change cells) else Same
 
 -- the cells that are seen of a row of these cells
 abbrev pub seen : Slot → List Cell → Option (List Cell)
@@ -50,13 +55,14 @@ passes_seen change (Some cells) = passes (cond_of change) cells
 abbrev pub is_touched : Change → Slot → List Cell → Bool
 is_touched change slot cells = passes_seen change (seen slot cells)
 
--- the slot after the statement
-abbrev pub slot_seen : Change → Option (List Cell) → Slot
-slot_seen change None = Dropped
-slot_seen change (Some cells) = slot_for change cells
+-- the cells of a row that is seen, after the statement, which writes it
+abbrev pub cells_seen : Change → Option (List Cell) → Option (List Cell)
+cells_seen change None = None
+cells_seen change (Some cells) = cells_for change cells
 
+-- the slot after the statement
 abbrev pub changed_slot : Change → Slot → List Cell → Slot
-changed_slot change slot cells = if is_touched change slot cells then slot_seen change (seen slot cells) else slot
+changed_slot change slot cells = if is_touched change slot cells then slot_of (cells_seen change (seen slot cells)) else slot
 
 abbrev pub changed_slots : Change → List Slot → List PlainRow → List Slot
 changed_slots change slots [] = []
@@ -71,15 +77,9 @@ stored_after Dropped stored = None
 abbrev pub changed_own : Change → List Stored → List Stored
 changed_own change own = filter_map (λ (stored : Stored). stored_after (effect change stored.row) stored) own
 
--- the cells of a row after the statement, which writes it
-abbrev pub cells_for : Change → List Cell → Option (List Cell)
-cells_for (update sets cond) cells = Some (assigned sets cells)
-cells_for (delete cond) cells = None
-
 -- the cells of a row that was written over an earlier version, after the statement
 abbrev pub cells_after : Change → Option (List Cell) → Option (List Cell)
-cells_after change None = None
-cells_after change (Some cells) = if passes (cond_of change) cells then cells_for change cells else Some cells
+cells_after change row = if passes_seen change row then cells_seen change row else row
 
 -- the row keeps its base
 abbrev pub carried_after : Change → Carried → Carried

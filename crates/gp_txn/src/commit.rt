@@ -5,9 +5,9 @@ ghost use Rattle.gp_base.specs.declared.catalog.TheConstants.{MAX_TABLES};
 ghost use Rattle.gp_txn.specs.Committing.{AreCommittable, AreCommitted, AreRefused, Commits, HasCause, HaveSameSpans, commit_of, spans_left};
 ghost use Rattle.gp_txn.specs.Conflicts.{IsFirstConflict, lates_at};
 ghost use Rattle.gp_base.specs.declared.limit.TheConstants.{MAX_SPANS};
-ghost use Rattle.gp_txn.specs.Prepared.{AreWritesOf, IsReady, prepared_at};
+ghost use Rattle.gp_txn.specs.Prepared.{AreWritesOf, prepared_at};
 ghost use Rattle.gp_txn.specs.Transactions.{AreOthers, HoldsOthers, table_at, writes_at};
-ghost use Rattle.gp_versions.specs.Commits.{AreBelow, AreDistinct, after_commit};
+ghost use Rattle.gp_versions.specs.Commits.{AreBelow, AreDistinct};
 
 use crate::active::Active;
 use crate::conflict::{Conflict, first_conflict};
@@ -90,49 +90,7 @@ fn prepare_few(
     Ok(prepare(alloc, t, tables, versions)?)
 }
 
-/// Makes room for the writes, and then the version.
-fn publish_prepared(
-    alloc: Global,
-    versions: &mut [VersionTable],
-    version: u32,
-    prepared: &mut [Writes],
-) -> Result<(), NoMemory>
-    requires same { length versions.old ≡ length prepared.old }
-    requires first { 1 ≤ version }
-    requires above { (place : ℕ) → AreBelow version (table_at place versions.old).spans }
-    requires distinct { (place : ℕ) → place < length versions.old
-        → AreDistinct (prepared_at prepared.old place) }
-    ensures spans { OnOk result ((place : ℕ) → place < length versions.old
-        → (table_at place versions.new).spans ≡ after_commit version
-        (prepared_at prepared.old place) (table_at place versions.old).spans) }
-    ensures unchanged { OnErr result (HaveSameSpans versions.old versions.new) }
-{
-    reserve_all(versions, prepared)?;
-    publish(alloc, versions, version, prepared);
-    Ok(())
-}
-
-/// Commits the writes of a transaction, where the spans that are looked up are entered. Everything that can fail comes
-/// before the first change.
-fn commit_entered(
-    alloc: Global,
-    t: u32,
-    tables: &[TableWrites],
-    versions: &mut [VersionTable],
-    version: u32,
-) -> Result<(), CommitStop>
-    requires ready { AreCommittable t version tables.now versions.old }
-    ensures made { OnOk result (AreCommitted version tables.now versions.old versions.new) }
-    ensures cause { IfErr result (λ stop. AreRefused stop tables.now versions.old) }
-    ensures unchanged { OnErr result (HaveSameSpans versions.old versions.new) }
-{
-    check_conflict(tables, versions)?;
-    let mut prepared = prepare_few(alloc, t, tables, versions)?;
-    publish_prepared(alloc, versions, version, &mut prepared)?;
-    Ok(())
-}
-
-/// Commits the writes of a transaction.
+/// Commits the writes of a transaction. Everything that can fail comes before the first change.
 fn commit_writes(
     alloc: Global,
     t: u32,
@@ -146,7 +104,10 @@ fn commit_writes(
     ensures unchanged { OnErr result (HaveSameSpans versions.old versions.new) }
 {
     enter_spans(tables, versions)?;
-    commit_entered(alloc, t, tables, versions, version)?;
+    check_conflict(tables, versions)?;
+    let mut prepared = prepare_few(alloc, t, tables, versions)?;
+    reserve_all(versions, &prepared)?;
+    publish(alloc, versions, version, &mut prepared);
     Ok(())
 }
 

@@ -2,7 +2,6 @@
 
 ghost use Rattle.std.specs.Prelude.{◌≡◌, ◌<◌, ◌^◌, ◌∷◌, [], length, map, IfOk};
 ghost use Rattle.gp_base.specs.Annotated.{unannotated};
-ghost use Rattle.gp_base.specs.Identities.{identity, no_sources};
 ghost use Rattle.gp_algebra.specs.Effects.{given_from, made};
 ghost use Rattle.gp_exec.specs.Choosing.{chosen_view};
 ghost use Rattle.gp_txn.specs.Inserting.{Makes};
@@ -12,16 +11,6 @@ use crate::error::StmtStop;
 use gp_base::{NoMemory, Row, RowId, Sequence, Stored};
 use gp_exec::Chosen;
 use std::alloc::Global;
-
-/// The identity of a row of a VALUES list.
-fn given_id(alloc: Global, t: u32, k: u32, n: u32) -> RowId
-    ensures { result ≡ identity t k n no_sources }
-{
-    match RowId::new(t, k, n, Vec::new(alloc)) {
-        Some(id) => id,
-        None => unreachable!(),
-    }
-}
 
 /// The rows of a VALUES list of statement k, with their identities.
 pub fn given_rows(alloc: Global, t: u32, k: u32, rows: &[Row]) -> Result<Sequence<Stored>, NoMemory>
@@ -34,7 +23,7 @@ pub fn given_rows(alloc: Global, t: u32, k: u32, rows: &[Row]) -> Result<Sequenc
         n += 1;
         let row = row.clone()?;
         new.push(Stored {
-            id: given_id(alloc, t, k, n),
+            id: RowId::given(alloc, t, k, n),
             row,
         })?;
     }

@@ -1,6 +1,6 @@
 //! UPDATE and DELETE over the writes of a transaction. Both pass once over the rows of a table that may pass their condition.
 
-ghost use Rattle.std.specs.Prelude.{◌≡◌, ◌≤◌, ◌++◌, ◌∷◌, [], length, true, map, IfOk, OnOk, ◌<◌, ◌^◌};
+ghost use Rattle.std.specs.Prelude.{◌≡◌, ◌≤◌, ◌++◌, ◌∷◌, [], length, true, false, map, IfOk, OnOk, MatchOption, ◌<◌, ◌^◌};
 ghost use Rattle.std.specs.Option.{option_map, option_to_list};
 ghost use Rattle.gp_base.specs.Annotated.{unannotated};
 ghost use Rattle.gp_expr.specs.Values as values;
@@ -11,7 +11,7 @@ ghost use Rattle.gp_txn.specs.Overlay.{carried_row, own_row, overlaid, overlay_o
 ghost use Rattle.gp_txn.specs.Ascending.{IsAscending, place_of};
 ghost use Rattle.gp_txn.specs.Enough.{IsEnough, first_at, slot_or, slotted_at};
 ghost use Rattle.gp_txn.specs.Passes.{made_of_slot, row_entry, row_touched};
-ghost use Rattle.gp_txn.specs.Slots.{carried_after, cells_after, cells_for, changed_carried, changed_from, changed_own, changed_slot, changed_table, count_touched, effect, entry, is_touched, one_if, passes_seen, seen, slot_for, stored_after};
+ghost use Rattle.gp_txn.specs.Slots.{carried_after, cells_after, cells_seen, changed_carried, changed_from, changed_own, changed_slot, changed_table, count_touched, effect, entry, is_touched, one_if, passes_seen, seen, slot_of, stored_after};
 
 use crate::assignment::assigned;
 use crate::carried::{Carried, CarriedRows};
@@ -55,14 +55,36 @@ fn copied(slot: Option<&Slot>) -> Result<Slot, NoMemory>
     }
 }
 
-/// What the statement does to a row of these cells, which it writes.
-fn slot_for(alloc: Global, change: &Change<'_>, row: &Row) -> Result<Slot, NoMemory>
+/// The cells of a row after the statement, or None if it deletes the row. Nothing, if it does not write the row, or there is
+/// none.
+fn written(
+    alloc: Global,
+    change: &Change<'_>,
+    row: Option<&Row>,
+) -> Result<Option<Option<Row>>, NoMemory>
     requires { change_is_simple (change_view change.now) ≡ true }
-    ensures { IfOk result (λ slot. slot ≡ slot_for (change_view change.now) row.now) }
+    ensures { IfOk result (λ new. MatchOption new
+        (passes_seen (change_view change.now) (option_map (λ row. row.now) row.entry) ≡ false)
+        (λ cells.
+        (passes_seen (change_view change.now) (option_map (λ row. row.now) row.entry) ≡ true)
+        × (cells ≡ cells_seen (change_view change.now) (option_map (λ row. row.now) row.entry)))) }
 {
-    match change {
-        Change::Update(sets, _) => Ok(Slot::Put(assigned(alloc, sets, row)?)),
-        Change::Delete(_) => Ok(Slot::Dropped),
+    match row {
+        Some(row) if passes(change, row) => match change {
+            Change::Update(sets, _) => Ok(Some(Some(assigned(alloc, sets, row)?))),
+            Change::Delete(_) => Ok(Some(None)),
+        },
+        _ => Ok(None),
+    }
+}
+
+/// The slot of a row that the statement wrote, with these cells.
+fn slot_of(cells: Option<Row>) -> Slot
+    ensures { result ≡ slot_of cells }
+{
+    match cells {
+        Some(cells) => Slot::Put(cells),
+        None => Slot::Dropped,
     }
 }
 
@@ -79,12 +101,12 @@ fn changed_slot(
     ensures count { IfOk result (λ new. new.count ≡ one_if (is_touched
         (change_view change.now) (slot_or (option_map (λ slot. slot.now) slot.entry)) row.now)) }
 {
-    match seen(slot, row) {
-        Some(cells) if passes(change, cells) => Ok(Counted {
-            made: slot_for(alloc, change, cells)?,
+    match written(alloc, change, seen(slot, row))? {
+        Some(cells) => Ok(Counted {
+            made: slot_of(cells),
             count: 1,
         }),
-        _ => Ok(Counted {
+        None => Ok(Counted {
             made: copied(slot)?,
             count: 0,
         }),
@@ -190,17 +212,6 @@ fn changed_slots(
     Ok(Counted { made: new, count })
 }
 
-/// The cells of a row after the statement, which writes it.
-fn cells_for(alloc: Global, change: &Change<'_>, row: &Row) -> Result<Option<Row>, NoMemory>
-    requires { change_is_simple (change_view change.now) ≡ true }
-    ensures { IfOk result (λ new. new ≡ cells_for (change_view change.now) row.now) }
-{
-    match change {
-        Change::Update(sets, _) => Ok(Some(assigned(alloc, sets, row)?)),
-        Change::Delete(_) => Ok(None),
-    }
-}
-
 /// The cells after the statement of a row that was written over an earlier version, and whether the statement writes it.
 fn cells_after(
     alloc: Global,
@@ -212,17 +223,10 @@ fn cells_after(
     ensures count { IfOk result (λ new. new.count
         ≡ one_if (passes_seen (change_view change.now) row.now)) }
 {
-    match row {
+    match written(alloc, change, row.as_ref())? {
+        Some(made) => Ok(Counted { made, count: 1 }),
         None => Ok(Counted {
-            made: None,
-            count: 0,
-        }),
-        Some(cells) if passes(change, cells) => Ok(Counted {
-            made: cells_for(alloc, change, cells)?,
-            count: 1,
-        }),
-        Some(cells) => Ok(Counted {
-            made: Some(cells.clone()?),
+            made: row.clone()?,
             count: 0,
         }),
     }
@@ -273,25 +277,6 @@ fn changed_carried(
     Ok(Counted { made: new, count })
 }
 
-/// An inserted row after the statement, which writes it.
-fn written_row(
-    alloc: Global,
-    change: &Change<'_>,
-    stored: &Stored,
-) -> Result<Option<Stored>, NoMemory>
-    requires { change_is_simple (change_view change.now) ≡ true }
-    ensures { IfOk result (λ new. new
-        ≡ stored_after (slot_for (change_view change.now) stored.now.row) stored.now) }
-{
-    match change {
-        Change::Update(sets, _) => Ok(Some(Stored {
-            id: stored.id.clone()?,
-            row: assigned(alloc, sets, &stored.row)?,
-        })),
-        Change::Delete(_) => Ok(None),
-    }
-}
-
 /// Adds an inserted row as it is after the statement. Gives 1 if the statement writes it, else 0.
 fn push_changed(
     alloc: Global,
@@ -305,14 +290,18 @@ fn push_changed(
     ensures count { IfOk result (λ count. count
         ≡ one_if (values.passes (cond_of (change_view change.now)) stored.now.row)) }
 {
-    if !passes(change, &stored.row) {
-        new.push(copied_row(stored)?)?;
-        return Ok(0);
+    match written(alloc, change, Some(&stored.row))? {
+        None => {
+            new.push(copied_row(stored)?)?;
+            Ok(0)
+        }
+        Some(None) => Ok(1),
+        Some(Some(row)) => {
+            let id = stored.id.clone()?;
+            new.push(Stored { id, row })?;
+            Ok(1)
+        }
     }
-    if let Some(stored) = written_row(alloc, change, stored)? {
-        new.push(stored)?;
-    }
-    Ok(1)
 }
 
 /// The inserted rows after the statement.

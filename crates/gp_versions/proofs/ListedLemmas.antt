@@ -10,7 +10,7 @@ use Rattle.std.proofs.lemmas.Option.{slice_get_within}
 use Rattle.gp_versions.specs.declared.span.Span.{Span}
 use Rattle.gp_versions.specs.declared.span.Write.{Write}
 use Rattle.gp_versions.specs.Commits.{after_commit, begun, ended, is_open, is_written}
-use Rattle.gp_versions.specs.Listed.{IsListed, IsWhere, end_or, greater, held, is_some_open, later_of, listed, newest_end, open_places}
+use Rattle.gp_versions.specs.Listed.{IsListed, end_or, greater, held, is_some_open, later_of, listed, newest_end, open_places}
 use Rattle.gp_versions.specs.Search.{among, is_where}
 use Rattle.gp_versions.specs.Spans.{holds_at, is_before_end, spans_at}
 use Rattle.gp_versions.proofs.PlaceLemmas.{all-range, among-append, among-narrower, listed-among, listed-first, places-first, range-more}
@@ -219,8 +219,3 @@ IsListed-dropped places kept covered floor above spans is-kept is-above is =
       low = all-open (λ place. place < covered) (λ place. is_some_open (slice_get spans place)) places is.low;
       same = λ v from. is.same v (omega (arith, from, newest-above floor spans places)) ∙ open-listed v floor spans places from;
     }
-
--- ---- where the spans of a version are
-
-pub IsWhere-listed : (places : List ℕ) (covered floor v : ℕ) (spans : List Span) → IsListed places covered floor spans → floor ≤ v → IsWhere places covered v spans
-IsWhere-listed places covered floor v spans is from = record { within = is.within; same = is.same v from }

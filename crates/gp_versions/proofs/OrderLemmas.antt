@@ -9,7 +9,7 @@ use Rattle.gp_base.specs.IdentityOrder.{identity_cmp_total}
 use Rattle.gp_versions.specs.declared.span.Span.{Span}
 use Rattle.gp_versions.specs.Spans.{span_cmp}
 
-span_cmp_total : IsTotalOrder span_cmp
+pub span_cmp_total : IsTotalOrder span_cmp
 span_cmp_total = then_total (on_total (λ (span : Span). span.id) identity_cmp_total) (on_total (λ (span : Span). span.from) nat_cmp_total)
 
 pub places_total : IsTotalOrder (option_cmp span_cmp)

@@ -1,14 +1,11 @@
 -- The places of spans of which something is true.
-use Rattle.std.proofs.Common.{◌≡◌, ℕ, zero, suc, ◌+◌, ◌-◌, ◌<◌, ◌≤◌, Bool, true, false, cond, List, [], ◌∷◌, ◌++◌, get_or, length, map, reverse, take, slice_get, Some, None, IsSomeAnd, refl, ap, sym, ◌∙◌, subst, arith}
-use Rattle.std.specs.List.{AllByRecursion, Contains, cons_option, filter, filter_map, range_with_len}
-use Rattle.std.specs.List.Sorted.{IsStrictlyIncreasing}
+use Rattle.std.proofs.Common.{◌≡◌, ℕ, zero, suc, ◌+◌, ◌-◌, ◌<◌, ◌≤◌, Bool, true, false, cond, List, [], ◌∷◌, ◌++◌, length, map, reverse, take, slice_get, Some, None, refl, ap, sym, ◌∙◌, arith}
+use Rattle.std.specs.List.{AllByRecursion, cons_option, filter, range_with_len}
 use Rattle.std.specs.Cmp.Lexicographic.{slice_cmp}
 use Rattle.std.specs.Ordering.{int_cmp, nat_cmp}
 use Rattle.std.proofs.lemmas.Bool.{and_parts, false_from_ne_true}
-use Rattle.std.proofs.lemmas.List.{append_assoc, append-nil, length-map, reverse-append, take_all}
+use Rattle.std.proofs.lemmas.List.{append_assoc, append-nil, reverse-append, take_all}
 use Rattle.std.proofs.lemmas.List.Elements.{filter-append}
-use Rattle.std.proofs.lemmas.List.FromFn.{length-range_with_len, get_or-range_with_len}
-use Rattle.std.proofs.lemmas.List.Kept.{IsStrictlyIncreasing-filter}
 use Rattle.std.proofs.lemmas.Map.Lookups.{exact_bytes, exact_signed}
 use Rattle.gp_base.specs.declared.cell.Cell.{Cell}
 use Rattle.gp_base.specs.declared.cell.Cell.TheVariants as cell
@@ -47,13 +44,6 @@ pub all-range : (n first count : ℕ) → first + count ≤ n → AllByRecursion
 all-range n first zero low = tt
 all-range n first (suc count) low = (omega (arith, low), all-range n (first + 1) count (omega (arith, low)))
 
-range-rising : (a n : ℕ) → IsStrictlyIncreasing (range_with_len a n)
-range-rising a n k within =
-    let long = length-range_with_len a n in
-    let low = get_or-range_with_len a n k 0 (omega (arith, within, long)) in
-    let high = get_or-range_with_len a n (k + 1) 0 (omega (arith, within, long)) in
-    omega (arith, low, high)
-
 -- ---- places
 
 pub among-append : (p : Span → Bool) (spans : List Span) (xs ys : List ℕ) → among p spans (xs ++ ys) ≡ among p spans xs ++ among p spans ys
@@ -85,56 +75,6 @@ places-first p (suc n) (span ∷ spans) =
 pub places-filter : (p : Span → Bool) (spans : List Span) → places_where p spans ≡ filter (λ place. is_where p (slice_get spans place)) (range_with_len 0 (length spans))
 places-filter p spans = ap (places_where p) (sym (take_all (length spans) spans (omega arith))) ∙ places-first p (length spans) spans
 
--- each is behind the one before it
-pub places-ascending : (p : Span → Bool) (spans : List Span) → IsStrictlyIncreasing (places_where p spans)
-places-ascending p spans =
-    subst IsStrictlyIncreasing (sym (places-filter p spans)) (IsStrictlyIncreasing-filter (λ place. is_where p (slice_get spans place)) (range_with_len 0 (length spans)) (range-rising 0 (length spans)))
-
-all-shifted : (P Q : ℕ → Type 0) (places : List ℕ) → ((place : ℕ) → P place → Q (suc place)) → AllByRecursion P places → AllByRecursion Q (map suc places)
-all-shifted P Q [] step all = tt
-all-shifted P Q (place ∷ places) step all = (step place all.0, all-shifted P Q places step all.1)
-
--- there is a span of which it is true
-pub places-there : (p : Span → Bool) (spans : List Span) → AllByRecursion (λ place. IsSomeAnd (slice_get spans place) (λ span. p span ≡ true)) (places_where p spans)
-places-there p [] = tt
-places-there p (span ∷ spans) =
-    let There = λ (place : ℕ). IsSomeAnd (slice_get (span ∷ spans) place) (λ s. p s ≡ true) in
-    let rest = all-shifted (λ place. IsSomeAnd (slice_get spans place) (λ s. p s ≡ true)) (λ place. IsSomeAnd (slice_get (span ∷ spans) place) (λ s. p s ≡ true)) (places_where p spans) (λ place is. is) (places-there p spans) in
-    elim (p span) as (λ b. p span ≡ b → AllByRecursion (λ place. IsSomeAnd (slice_get (span ∷ spans) place) (λ s. p s ≡ true)) (cond b (0 ∷ map suc (places_where p spans)) (map suc (places_where p spans)))) [
-      | true ↦ λ is. (is, rest)
-      | false ↦ λ is. rest
-    ] refl
-
-pub places-within : (p : Span → Bool) (spans : List Span) → AllByRecursion (λ place. place < length spans) (places_where p spans)
-places-within p [] = tt
-places-within p (span ∷ spans) =
-    let rest = all-shifted (λ place. place < length spans) (λ place. place < length (span ∷ spans)) (places_where p spans) (λ place low. omega (arith, low)) (places-within p spans) in
-    elim (p span) as (λ b. AllByRecursion (λ place. place < length (span ∷ spans)) (cond b (0 ∷ map suc (places_where p spans)) (map suc (places_where p spans)))) [
-      | true ↦ (omega arith, rest)
-      | false ↦ rest
-    ]
-
-shifted-at : (places : List ℕ) (k d : ℕ) → k < length places → get_or (map suc places) k (suc d) ≡ suc (get_or places k d)
-shifted-at [] k d low = absurd (omega arith)
-shifted-at (place ∷ places) zero d low = refl
-shifted-at (place ∷ places) (suc k) d low = shifted-at places k d (omega arith)
-
--- and each such place is among them
-pub places-complete : (p : Span → Bool) (spans : List Span) (place : ℕ) (span : Span) → slice_get spans place ≡ Some span → p span ≡ true → Contains (places_where p spans) place
-places-complete p [] place span at is = absurd (cc)
-places-complete p (first ∷ spans) zero span at is =
-    let e : first ≡ span = cc in
-    subst (λ b. Contains (cond b (0 ∷ map suc (places_where p spans)) (map suc (places_where p spans))) 0) (sym (ap p e ∙ is)) (0, omega arith, refl)
-places-complete p (first ∷ spans) (suc place) span at is =
-    let places = places_where p spans in
-    let there = places-complete p spans place span at is in
-    let long = length-map places suc in
-    let shifted : get_or (map suc places) there.0 (suc place) ≡ suc place = shifted-at places there.0 place there.1 ∙ ap suc there.2 in
-    elim (p first) as (λ b. Contains (cond b (0 ∷ map suc places) (map suc places)) (suc place)) [
-      | true ↦ (suc there.0, omega (arith, there.1, long), shifted)
-      | false ↦ (there.0, omega (arith, there.1, long), shifted)
-    ]
-
 -- ---- the spans at the places
 
 listed-shift : (span : Span) (spans : List Span) (places : List ℕ) → listed (span ∷ spans) (map suc places) ≡ listed spans places
@@ -152,9 +92,6 @@ listed-first p (suc n) (span ∷ spans) =
       | true ↦ ap (λ xs. span ∷ xs) rest
       | false ↦ rest
     ]
-
-pub places-spans : (p : Span → Bool) (spans : List Span) → filter_map (slice_get spans) (places_where p spans) ≡ filter p spans
-places-spans p spans = subst (λ some. listed spans (places_where p some) ≡ filter p some) (take_all (length spans) spans (omega arith)) (listed-first p (length spans) spans)
 
 -- those of listed spans
 pub listed-among : (p : Span → Bool) (spans : List Span) (places : List ℕ) → filter p (listed spans places) ≡ listed spans (among p spans places)

@@ -114,7 +114,7 @@ put b row rows = cond b (row ∷ rows) rows
 rows_at-cons : {M : Type 0} (domain : Annotations M) (v : ℕ) (span : Span) (spans : List Span) → rows_at domain v (span ∷ spans) ≡ put (holds_at v span) (row_of domain span) (rows_at domain v spans)
 rows_at-cons domain v span spans = elim (holds_at v span) as (λ b. map (row_of domain) (cond b (span ∷ spans_at v spans) (spans_at v spans)) ≡ put b (row_of domain span) (rows_at domain v spans)) [ true ↦ refl | false ↦ refl ]
 
-end-before : (v version : ℕ) (b : Bool) (to : Option ℕ) → v < version → is_before_end v (cond (is_open to && b) (Some version) to) ≡ is_before_end v to
+pub end-before : (v version : ℕ) (b : Bool) (to : Option ℕ) → v < version → is_before_end v (cond (is_open to && b) (Some version) to) ≡ is_before_end v to
 end-before v version true None early = lt-ltb v version early
 end-before v version false None early = refl
 end-before v version b (Some to) early = refl

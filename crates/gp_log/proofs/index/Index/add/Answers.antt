@@ -24,7 +24,7 @@ returns-in-Begin c log line session counted next old =
 pub returns-in-Statement : goal.returns-in-Statement
 returns-in-Statement c log line session counted next old =
     subst (λ (what : What). IsIndex c.run.new.self (what_view line session c.args.t what ∷ log)) (sym c.in-Statement.is)
-    (c.run.ensures log line session (command_view c.in-Statement.command) (statement_view c.in-Statement.stmt) (subst (λ (what : What). HasNextNumber log c.args.t what) c.in-Statement.is next) old)
+    (c.run.ensures log line session (command_view c.in-Statement.command.value) (statement_view c.in-Statement.stmt.value) (subst (λ (what : What). HasNextNumber log c.args.t what) c.in-Statement.is next) old)
 
 pub returns-in-Commit : goal.returns-in-Commit
 returns-in-Commit c log line session counted next old =
