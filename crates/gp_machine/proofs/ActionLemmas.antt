@@ -1,13 +1,9 @@
 -- A command does what its action does.
-use Rattle.std.proofs.Common.{◌≡◌, ℕ, Option, Some, None, refl, ap}
-use Rattle.gp_base.specs.Annotated.{Annotations}
+use Rattle.gp_machine.proofs.Prelude.{◌≡◌, ℕ, Option, Some, None, refl, ap, Annotations, Command, action_of, answered, event, Parameters, State}
 use Rattle.gp_grammar.specs.Syntax as y
-use Rattle.gp_grammar.specs.Syntax.{Command}
 use Rattle.gp_machine.specs.Actions.{allowed}
-use Rattle.gp_machine.specs.ActionForms.{action_of, allowed_to, answered}
-use Rattle.gp_machine.specs.Event.{doing, event}
-use Rattle.gp_machine.specs.Parameters.{Parameters}
-use Rattle.gp_machine.specs.State.{State}
+use Rattle.gp_machine.specs.ActionForms.{allowed_to}
+use Rattle.gp_machine.specs.Event.{doing}
 
 pub allowed-is : {A : Type 0} (active : Option A) (command : Command) → allowed active command ≡ allowed_to active (action_of command)
 allowed-is None (y.create table) = refl

@@ -1,26 +1,10 @@
 -- The invariant of a running transaction: at its BEGIN, after a statement, over a history, and in a reached state.
-use Rattle.std.proofs.Common.{◌≡◌, ◌≢◌, ◌∙◌, ℕ, zero, suc, ◌<◌, ◌≤◌, false, List, [], ◌++◌, refl, sym, subst, arith, Some}
-use Rattle.gp_algebra.specs.Effects.{Written, step, wrote}
-use Rattle.gp_algebra.specs.Statements.{Statement}
-use Rattle.gp_base.specs.Annotated.{Annotated, Annotations, Database, Environment}
-use Rattle.gp_base.specs.IdentityParts.{identity_statement, identity_transaction}
+use Rattle.gp_machine.proofs.Prelude.{◌≡◌, ◌≢◌, ◌∙◌, ℕ, zero, suc, ◌<◌, ◌≤◌, false, List, [], ◌++◌, refl, sym, subst, arith, Some, Written, step, wrote, Statement, Annotated, Annotations, Database, Environment, identity_statement, identity_transaction, Based, pairs, is_written, merged, unmarked, Log, log_of, versions_in, IsHistory, Parameters, IsReached, Seen, seen_by, Active, State, HaveDifferentIdentities, IsViewOf, AllByRecursion, each_append}
 use Rattle.gp_machine.proofs.CommitLemmas.{Clean, IsMadeBy, all_sound, bases_within, made_view, view_kept}
 use Rattle.gp_machine.proofs.Distinct.{each_filter, each_weaker}
 use Rattle.gp_machine.proofs.LogLemmas.{versions_le}
 use Rattle.gp_machine.proofs.StepViews.{AllKept, MadeBy, step_each, step_kept}
 use Rattle.gp_machine.proofs.ViewLemmas.{kept_merged}
-use Rattle.gp_machine.specs.Bases.{Based, pairs}
-use Rattle.gp_machine.specs.Committed.{is_written, merged, unmarked}
-use Rattle.gp_machine.specs.Entries.{Log, log_of, versions_in}
-use Rattle.gp_machine.specs.Histories.{IsHistory}
-use Rattle.gp_machine.specs.Parameters.{Parameters}
-use Rattle.gp_machine.specs.Reached.{IsReached}
-use Rattle.gp_machine.specs.Reading.{Seen}
-use Rattle.gp_machine.specs.ReadBy.{seen_by}
-use Rattle.gp_machine.specs.State.{Active, State}
-use Rattle.gp_machine.specs.SeenRows.{HaveDifferentIdentities, IsViewOf}
-use Rattle.std.specs.List.{AllByRecursion}
-use Rattle.gp_base.proofs.SmallLemmas.{each_append}
 
 -- at BEGIN
 pub begin_view : {M : Type 0} (t : ℕ) (base : Database M) → ((table : ℕ) → HaveDifferentIdentities (base table)) → ((table : ℕ) → AllByRecursion (λ row. row.mark ≡ false) (base table))

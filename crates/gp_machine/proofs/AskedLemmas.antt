@@ -1,14 +1,8 @@
 -- What the log does not refuse may be asked about.
-use Rattle.std.proofs.Common.{◌≡◌, ℕ, ◌≤◌, Bool, true, false, cond, List, refl, Option, Some, None, nat_le}
-use Rattle.std.specs.Prelude.{◌&&◌, not, nat_lt}
-use Rattle.std.specs.Option.{is_none}
+use Rattle.gp_machine.proofs.Prelude.{◌≡◌, ℕ, ◌≤◌, Bool, true, false, cond, List, refl, Option, Some, None, nat_le, ◌&&◌, not, nat_lt, is_none, E20, E21, E22, E23, Entry, statement_count, version_of, versions_in, IsAsked, to_commit, to_statement, to_version, log_refusal, none_parts, some_none, leb-true}
 use Rattle.gp_grammar.specs.Syntax as y
-use Rattle.gp_base.specs.declared.refusal.Refusal.TheVariants.{E20, E21, E22, E23}
-use Rattle.gp_machine.specs.Entries.{Entry, fate_of, statement_count, version_of, versions_in}
-use Rattle.gp_machine.specs.QuestionForms.{IsAsked, to_commit, to_statement, to_version}
-use Rattle.gp_machine.specs.Questions.{is_known, log_refusal, statement_refusal, transaction_refusal}
-use Rattle.gp_base.proofs.SmallLemmas.{none_parts, some_none}
-use Rattle.std.proofs.lemmas.Bool.{leb-true}
+use Rattle.gp_machine.specs.Entries.{fate_of}
+use Rattle.gp_machine.specs.Questions.{is_known, statement_refusal, transaction_refusal}
 
 -- a transaction that the log does not refuse made a version
 made_version : (t : ℕ) (entries : List Entry) → transaction_refusal t entries ≡ None → (version : ℕ) × (version_of t entries ≡ Some version)

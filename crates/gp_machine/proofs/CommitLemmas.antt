@@ -1,33 +1,12 @@
 -- Every version of a history has different, unmarked rows, made by transactions that committed by then; and each commit is what publishing by marks and
 -- absence computes of the run of its transaction.
-use Rattle.std.proofs.Common.{◌≡◌, ℕ, zero, suc, ◌<◌, ◌≤◌, Bool, true, false, cond, List, ◌++◌, refl, sym, ap, ◌∙◌, subst, arith, map, Option, Some, None, ⊎_elim, ◌≢◌}
-use Rattle.std.specs.Prelude.{◌||◌, ◌==◌}
-use Rattle.std.specs.List.{filter}
-use Rattle.std.proofs.lemmas.Bool.{false≢true, cases_lt, eqb-true}
-use Rattle.std.proofs.lemmas.List.Folds.{list_any-append}
-use Rattle.std.proofs.lemmas.List.{append-nil}
-use Rattle.gp_algebra.specs.Effects.{Written}
-use Rattle.gp_algebra.specs.Statements.{Statement}
-use Rattle.gp_base.specs.Annotated.{Annotated, Annotations, Database, Environment}
-use Rattle.gp_base.specs.Identities.{Identity, same_identity}
-use Rattle.gp_base.specs.IdentityParts.{identity_statement, identity_transaction}
+use Rattle.gp_machine.proofs.Prelude.{◌≡◌, ℕ, zero, suc, ◌<◌, ◌≤◌, Bool, true, false, cond, List, ◌++◌, refl, sym, ap, ◌∙◌, subst, arith, map, Option, Some, None, ⊎_elim, ◌≢◌, ◌||◌, ◌==◌, filter, false≢true, cases_lt, eqb-true, list_any-append, append-nil, Written, Statement, Annotated, Annotations, Database, Environment, Identity, same_identity, identity_statement, identity_transaction, Based, pairs, cleared, is_written, merged, unmarked, Log, IsHistory, holds_identity, publish, Seen, started, wrote_by, seen_by, at_commit, refreshed, run, stepped, HaveDifferentIdentities, AreSeenRows, same_row, unwritten, AllByRecursion, any-map, each_append, each_map, or_nothing}
 use Rattle.gp_machine.proofs.BaseLemmas.{each_front, found, is_written_based}
 use Rattle.gp_machine.proofs.Distinct.{differ_map, each_all, each_both, each_filter, each_weaker, none_any}
 use Rattle.gp_machine.proofs.Made.{same_equal}
 use Rattle.gp_machine.proofs.PublishLemmas.{publish_is}
 use Rattle.gp_machine.proofs.StepViews.{AllKept, MadeBy, kept_agree, step_each, step_kept}
 use Rattle.gp_machine.proofs.ViewLemmas.{holds_each, holds_others, kept_merged, unique_merged}
-use Rattle.gp_machine.specs.Bases.{Based, pairs}
-use Rattle.gp_machine.specs.Committed.{cleared, is_written, merged, unmarked}
-use Rattle.gp_machine.specs.Entries.{Log}
-use Rattle.gp_machine.specs.Histories.{IsHistory}
-use Rattle.gp_machine.specs.Publishing.{holds_identity, publish}
-use Rattle.gp_machine.specs.Reading.{Seen, started, wrote_by}
-use Rattle.gp_machine.specs.ReadBy.{seen_by}
-use Rattle.gp_machine.specs.Runs.{at_commit, refreshed, run, stepped}
-use Rattle.gp_machine.specs.SeenRows.{HaveDifferentIdentities, AreSeenRows, same_row, unwritten}
-use Rattle.std.specs.List.{AllByRecursion}
-use Rattle.gp_base.proofs.SmallLemmas.{any-map, each_append, each_map, or_nothing}
 
 -- the identity was made by the transaction of one of the first u commits
 abbrev pub IsMadeBy : Log → ℕ → Identity → Type 0

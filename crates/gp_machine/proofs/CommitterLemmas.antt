@@ -1,26 +1,10 @@
 -- A transaction makes one version at most, and the rows of a version were made by transactions that committed by then.
-use Rattle.std.proofs.Common.{◌≡◌, ◌≢◌, ℕ, suc, ◌<◌, ◌≤◌, Bool, true, false, cond, List, [], ◌∷◌, refl, sym, ap, ◌∙◌, subst, arith, Option, Some, None, ⊎_elim}
+use Rattle.gp_machine.proofs.Prelude.{◌≡◌, ◌≢◌, ℕ, suc, ◌<◌, ◌≤◌, Bool, true, false, cond, List, [], ◌∷◌, refl, sym, ap, ◌∙◌, subst, arith, Option, Some, None, ⊎_elim, AllByRecursion, cases_lt, Statement, Annotated, Annotations, identity_transaction, Refusal, Table, Command, Action, Begin, Commit, Create, Rollback, Run, action_of, answered, Conflict, Committed, Entry, committer_of, log_of, statements_in, transactions_in, version_of, versions_in, Line, after, beginning, committing, conflict_of, count_refusal, creating, creation_refusal, event, is_full, ran, refusal_of, running, start_now, Parameters, IsReached, Active, State, start, eq_itself, eq_not}
 use Rattle.std.specs.Prelude.{nat_le, Result, Ok, Err}
-use Rattle.std.specs.List.{AllByRecursion}
-use Rattle.std.proofs.lemmas.Bool.{cases_lt}
-use Rattle.gp_algebra.specs.Statements.{Statement}
-use Rattle.gp_base.specs.Annotated.{Annotated, Annotations}
-use Rattle.gp_base.specs.IdentityParts.{identity_transaction}
-use Rattle.gp_base.specs.declared.refusal.Refusal.{Refusal}
-use Rattle.gp_base.specs.declared.table.Table.{Table}
-use Rattle.gp_grammar.specs.Syntax.{Command}
 use Rattle.gp_machine.proofs.CommitLemmas.{IsMadeBy, all_sound}
 use Rattle.gp_machine.proofs.Distinct.{each_weaker}
 use Rattle.gp_machine.proofs.ReachedLemmas.{all_reached, event_reached, start_reached}
-use Rattle.gp_machine.specs.ActionForms.{Action, Begin, Commit, Create, Rollback, Run, action_of, answered}
 use Rattle.gp_machine.specs.Committers.{CommittedBy}
-use Rattle.gp_machine.specs.Conflicts.{Conflict}
-use Rattle.gp_machine.specs.Entries.{Committed, Entry, committer_of, log_of, statements_in, transactions_in, version_of, versions_in}
-use Rattle.gp_machine.specs.Event.{Line, after, beginning, committing, conflict_of, count_refusal, creating, creation_refusal, event, is_full, ran, refusal_of, running, start_now}
-use Rattle.gp_machine.specs.Parameters.{Parameters}
-use Rattle.gp_machine.specs.Reached.{IsReached}
-use Rattle.gp_machine.specs.State.{Active, State, start}
-use Rattle.gp_base.proofs.SmallLemmas.{eq_itself, eq_not}
 use Rattle.gp_machine.proofs.ActionLemmas.{event-answered}
 
 -- each version is the one that its transaction made

@@ -1,16 +1,6 @@
 -- The spans that an engine keeps, and the rows that its writes name, show the conflict of a transaction.
-use Rattle.std.proofs.Common.{◌≡◌, ◌≢◌, ℕ, zero, suc, ◌-◌, ◌<◌, ◌≤◌, ◌⊎◌, inl, inr, ⊎_elim, Bool, true, false, cond, List, [], ◌∷◌, refl, sym, ap, ◌∙◌, subst, arith, map, Option, Some, None}
-use Rattle.std.specs.Prelude.{◌&&◌, ◌||◌, ◌==◌, not, option_and_then}
-use Rattle.std.specs.List.{filter}
-use Rattle.std.proofs.lemmas.Bool.{false≢true, and_parts, eqb-true, not-true, or_right}
-use Rattle.gp_algebra.specs.Answers.{Element, answer}
-use Rattle.gp_algebra.specs.Effects.{Written, given_from, made, written_in, wrote}
-use Rattle.gp_algebra.specs.Statements.{Statement, delete, insert, insert_select, read, update}
-use Rattle.gp_base.specs.Annotated.{Annotated, Annotations, Database, Environment, unannotated}
-use Rattle.gp_base.specs.Identities.{Identity, same_identity}
-use Rattle.gp_base.specs.IdentityParts.{identity_transaction}
-use Rattle.gp_base.specs.declared.cell.Cell.{Cell}
-use Rattle.gp_expr.specs.Values.{passes}
+use Rattle.gp_machine.proofs.Prelude.{◌≡◌, ◌≢◌, ℕ, zero, suc, ◌-◌, ◌<◌, ◌≤◌, ◌⊎◌, inl, inr, ⊎_elim, Bool, true, false, cond, List, [], ◌∷◌, refl, sym, ap, ◌∙◌, subst, arith, map, Option, Some, None, ◌&&◌, ◌||◌, ◌==◌, filter, false≢true, and_parts, eqb-true, not-true, or_right, Element, answer, Written, given_from, made, written_in, wrote, Statement, delete, insert, insert_select, read, update, Annotated, Annotations, Database, Environment, unannotated, Identity, same_identity, identity_transaction, Cell, passes, action_of, Based, is_new, pairs, with_base, is_written, Conflict, least_conflict, HaveOneBase, IsBased, IsLeastConflict, Answers, FindsConflict, Follows, Log, begin_version, log_of, Line, after, as_of, next_written, spans_of, IsHistory, Parameters, holds_identity, IsReached, Kept, Overlay, Represents, RepresentsActive, base_in, Seen, wrote_by, seen_by, start_by, Active, State, start, Reply, holds_at, row_of, rows_at, spans_at, Span, AllByRecursion, each_append, each_map, eq_itself, some_none}
+use Rattle.std.specs.Prelude.{option_and_then}
 use Rattle.gp_machine.proofs.ActiveLemmas.{IsOver, active_clean, active_over, made_by_others}
 use Rattle.gp_machine.proofs.BaseLemmas.{base_is, bases_kept, found as what_holds, is_based, of_based}
 use Rattle.gp_machine.proofs.CommitLemmas.{Clean, IsMadeBy, all_sound, clean, started_kept, view_kept}
@@ -24,30 +14,9 @@ use Rattle.gp_machine.proofs.SpanLaws.{each_span, plain_spans_rows, spans_apart,
 use Rattle.gp_machine.proofs.SpanOrder.{next_bounds, next_upto}
 use Rattle.gp_machine.proofs.StepViews.{is_written_in}
 use Rattle.gp_machine.proofs.ViewLemmas.{holds_others}
-use Rattle.gp_machine.specs.ActionForms.{action_of}
-use Rattle.gp_machine.specs.Bases.{Based, is_new, pairs, with_base}
-use Rattle.gp_machine.specs.Committed.{is_written}
-use Rattle.gp_machine.specs.Conflicts.{Conflict, least_conflict}
-use Rattle.gp_machine.specs.ConflictForms.{HaveOneBase, IsBased, IsLeastConflict}
-use Rattle.gp_machine.specs.EngineLine.{Answers, FindsConflict, Follows, ShowsConflict, next_write}
-use Rattle.gp_machine.specs.Entries.{Log, begin_version, log_of}
-use Rattle.gp_machine.specs.Event.{Line, after}
-use Rattle.gp_machine.specs.HistorySpans.{as_of, next_written, spans_of}
-use Rattle.gp_machine.specs.Histories.{IsHistory}
-use Rattle.gp_machine.specs.Parameters.{Parameters}
-use Rattle.gp_machine.specs.Publishing.{holds_identity}
-use Rattle.gp_machine.specs.Reached.{IsReached}
-use Rattle.gp_machine.specs.Represents.{Kept, Overlay, Represents, RepresentsActive, base_in}
-use Rattle.gp_machine.specs.Reading.{Seen, wrote_by}
-use Rattle.gp_machine.specs.ReadBy.{seen_by, start_by}
-use Rattle.gp_machine.specs.State.{Active, State, start}
-use Rattle.gp_machine.specs.declared.reply.Reply.{Reply}
+use Rattle.gp_machine.specs.EngineLine.{ShowsConflict, next_write}
 use Rattle.gp_versions.proofs.HeldLemmas.{held-end}
-use Rattle.gp_versions.specs.Spans.{holds_at, row_of, rows_at, spans_at}
 use Rattle.gp_versions.specs.TableSpans.{later, later_end, least, written_after}
-use Rattle.gp_versions.specs.declared.span.Span.{Span}
-use Rattle.std.specs.List.{AllByRecursion}
-use Rattle.gp_base.proofs.SmallLemmas.{each_append, each_map, eq_itself, some_none}
 
 -- ---- rows that a transaction wrote are its own, or are in the versions of their bases
 

@@ -1,32 +1,13 @@
 -- What the log and the spans of a history answer is what the history held, and no run stops.
-use Rattle.std.proofs.Common.{◌≡◌, ℕ, zero, suc, ◌<◌, ◌≤◌, true, false, cond, List, [], ◌∷◌, ◌++◌, refl, sym, ap, ◌∙◌, subst, arith, map, Option, Some, None}
-use Rattle.std.specs.Prelude.{◌==◌}
-use Rattle.std.specs.List.{filter}
+use Rattle.gp_machine.proofs.Prelude.{◌≡◌, ℕ, suc, ◌<◌, ◌≤◌, true, false, cond, List, [], ◌∷◌, ◌++◌, refl, sym, ap, ◌∙◌, subst, arith, map, Some, None, ◌==◌, filter, SameBag, through, same_from, SameTables, Element, answer, answer_from, choices, joined, made, Select, Annotations, Database, annotated, annotated_versions, computed, cleared, unmarked, Began, Committed, Created, Ended, Entry, Ran, committer_of, log_of, statement_count, version_of, versions_in, state_spans, Parameters, at_point, version_or_empty, held_at, run_stop, version_before, IsAsked, to_commit, to_statement, to_version, at_commit, run, State, IsUnstopped, Span, none-some, same_Some, eq_itself, eq_not, eqb-true}
 use Rattle.gp_grammar.specs.Syntax as y
-use Rattle.gp_base.proofs.Bags.{SameBag, through, same_from}
-use Rattle.gp_algebra.proofs.StepBags.{SameTables, answer_same}
-use Rattle.gp_algebra.specs.Answers.{Element, answer, answer_from, choices, joined, passes_where, values}
-use Rattle.gp_algebra.specs.Effects.{made}
-use Rattle.gp_algebra.specs.Statements.{Select}
-use Rattle.gp_base.specs.Annotated.{Annotations, Database}
+use Rattle.gp_algebra.proofs.StepBags.{answer_same}
+use Rattle.gp_algebra.specs.Answers.{passes_where, values}
 use Rattle.gp_machine.proofs.CommitLemmas.{computed_is}
 use Rattle.gp_machine.proofs.RunBags.{cleared_same}
 use Rattle.gp_machine.proofs.Simulation.{commits_held, runs_held, stops_held, versions_held}
 use Rattle.gp_machine.proofs.UnstoppedLemmas.{front_unstopped}
-use Rattle.gp_machine.specs.Annotating.{annotated, annotated_versions, computed}
-use Rattle.gp_machine.specs.Committed.{cleared, unmarked}
-use Rattle.gp_machine.specs.Entries.{Began, Committed, Created, Ended, Entry, Ran, committer_of, log_of, statement_count, version_of, versions_in}
-use Rattle.gp_machine.specs.HistorySpans.{state_spans}
-use Rattle.gp_machine.specs.Parameters.{Parameters}
-use Rattle.gp_machine.specs.Points.{at_point, version_or_empty, held_at, run_stop, version_before}
-use Rattle.gp_machine.specs.QuestionForms.{IsAsked, to_commit, to_statement, to_version}
-use Rattle.gp_machine.specs.Runs.{at_commit, run}
-use Rattle.gp_machine.specs.State.{State}
-use Rattle.gp_machine.specs.Unstopped.{IsUnstopped}
-use Rattle.gp_versions.specs.declared.span.Span.{Span}
-use Rattle.std.proofs.lemmas.Option.{none-some, same_Some}
-use Rattle.gp_base.proofs.SmallLemmas.{eq_itself, eq_not, flat_map-map, flat_map_agree}
-use Rattle.std.proofs.lemmas.Bool.{eqb-true}
+use Rattle.gp_base.proofs.SmallLemmas.{flat_map-map, flat_map_agree}
 
 -- ---- the version that a transaction made
 

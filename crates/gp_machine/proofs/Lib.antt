@@ -1,3 +1,4 @@
+pub mod Prelude
 pub mod ActionLemmas
 pub mod ActiveLemmas
 mod AnnotationLemmas
@@ -23,11 +24,12 @@ mod QuestionLemmas
 pub mod ReachedLemmas
 mod RecordedLemmas
 mod ReplaceLemmas
+pub mod SerialLemmas
 pub mod ReplayLemmas
 mod ReplayReannotation
 pub mod ReplayedLemmas
 mod RepresentLemmas
-mod RunBags
+pub mod RunBags
 pub mod RunLemmas
 pub mod Simulation
 pub mod SpanCommit

@@ -1,29 +1,8 @@
 -- What the writes of an active transaction show in a version is what the transaction reads there.
-use Rattle.std.proofs.Common.{◌≡◌, ◌≢◌, ℕ, ◌≤◌, Bool, true, false, cond, List, [], ◌++◌, refl, sym, ap, ◌∙◌, arith, Some}
-use Rattle.std.specs.Prelude.{◌==◌, not}
-use Rattle.std.specs.List.{filter}
-use Rattle.std.specs.Option.{is_none}
-use Rattle.std.proofs.lemmas.List.Elements.{filter-append}
-use Rattle.gp_algebra.specs.Effects.{Written}
-use Rattle.gp_base.specs.Annotated.{Annotated, Environment, unannotated}
+use Rattle.gp_machine.proofs.Prelude.{◌≡◌, ◌≢◌, ℕ, ◌≤◌, Bool, true, false, cond, List, [], ◌++◌, refl, sym, ap, ◌∙◌, arith, Some, ◌==◌, not, filter, is_none, filter-append, Written, Annotated, Environment, unannotated, pairs, is_written, merged, Log, begin_version, log_of, versions_in, start_now, version_now, IsHistory, as_of, Parameters, IsReached, started, Overlay, RepresentsActive, base_in, version_to_read, view_at, view_of, Active, State, row_of, spans_at, Span, each_map, eq_itself, eq_not, both_ways, eqb-true}
 use Rattle.gp_machine.proofs.ActiveLemmas.{IsOver, active_kept, active_over, active_version, made_by_others}
 use Rattle.gp_machine.proofs.BaseLemmas.{base_or_none}
 use Rattle.gp_machine.proofs.Distinct.{each_all, each_filter, each_weaker, filter_each, filter_every, filter_none}
-use Rattle.gp_machine.specs.Bases.{pairs}
-use Rattle.gp_machine.specs.Committed.{is_written, merged}
-use Rattle.gp_machine.specs.Entries.{Log, begin_version, log_of, versions_in}
-use Rattle.gp_machine.specs.Event.{start_now, version_now}
-use Rattle.gp_machine.specs.Histories.{IsHistory}
-use Rattle.gp_machine.specs.HistorySpans.{as_of}
-use Rattle.gp_machine.specs.Parameters.{Parameters}
-use Rattle.gp_machine.specs.Reached.{IsReached}
-use Rattle.gp_machine.specs.Reading.{started}
-use Rattle.gp_machine.specs.Represents.{Overlay, RepresentsActive, base_in, version_to_read, view_at, view_of}
-use Rattle.gp_machine.specs.State.{Active, State}
-use Rattle.gp_versions.specs.Spans.{row_of, spans_at}
-use Rattle.gp_versions.specs.declared.span.Span.{Span}
-use Rattle.gp_base.proofs.SmallLemmas.{each_map, eq_itself, eq_not}
-use Rattle.std.proofs.lemmas.Bool.{both_ways, eqb-true}
 
 -- in another version than the one that the writes of the table lie over
 pub view_there : (spans : ℕ → List Span) (overlay : Overlay) (version place : ℕ) → version ≢ overlay.version place

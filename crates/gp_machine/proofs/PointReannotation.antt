@@ -1,26 +1,10 @@
 -- A homomorphism of annotations commutes with runs, with commits, with the states that questions ask about, and with where a run stops. So the
 -- rows of those states do not depend on annotations.
-use Rattle.std.proofs.Common.{◌≡◌, ℕ, zero, suc, Bool, true, false, cond, List, [], ◌∷◌, ◌++◌, refl, sym, ap, ◌∙◌, map, Option, Some, None}
-use Rattle.std.specs.Prelude.{◌&&◌, ◌==◌, not}
-use Rattle.std.specs.List.{filter}
-use Rattle.std.specs.Option.{option_or}
-use Rattle.std.proofs.lemmas.List.{map-append}
-use Rattle.gp_base.specs.Annotated.{Annotations, Annotated, Database, Environment, unannotated}
-use Rattle.gp_base.specs.Identities.{Identity, same_identity}
+use Rattle.gp_machine.proofs.Prelude.{◌≡◌, ℕ, zero, suc, Bool, true, false, cond, List, [], ◌∷◌, ◌++◌, refl, sym, ap, ◌∙◌, map, Option, Some, None, ◌&&◌, ◌==◌, not, filter, option_or, map-append, Annotations, Annotated, Database, Environment, unannotated, Identity, same_identity, answer, IsHomomorphism, database_reannotated, element_reannotated, forgotten, reannotated, Select, Statement, answer_reannotated, is_over_nodes_reannotated, is_over_rows_reannotated, step_reannotated, cleared, unmarked, Entry, Log, log_of, version_of, Parameters, OverRows, OverNodes, at_point, version_or_empty, held_at, run_stop, statement_stop, version_before, holds_identity, publish, was_written, at_commit, refreshed, run, run_before, stepped, State, state_reannotated, any-map, filter-map, map-map}
 use Rattle.gp_grammar.specs.Syntax as y
-use Rattle.gp_algebra.specs.Answers.{answer, cells_of}
-use Rattle.gp_algebra.specs.Reannotation.{IsHomomorphism, database_reannotated, element_reannotated, forgotten, reannotated}
-use Rattle.gp_algebra.specs.Statements.{Select, Statement}
-use Rattle.gp_algebra.proofs.Erasure.{Reannotates, answer_reannotated, is_over_nodes_reannotated, is_over_rows_reannotated, step_reannotated}
-use Rattle.gp_machine.specs.Committed.{cleared, unmarked}
-use Rattle.gp_machine.specs.Entries.{Entry, Log, log_of, version_of}
-use Rattle.gp_machine.specs.Parameters.{Parameters}
-use Rattle.gp_machine.specs.Points.{OverRows, OverNodes, at_point, version_or_empty, held_at, run_stop, statement_stop, version_before}
-use Rattle.gp_machine.specs.Publishing.{holds_identity, publish, was_written}
-use Rattle.gp_machine.specs.Runs.{at_commit, refreshed, run, run_before, stepped}
-use Rattle.gp_machine.specs.State.{State}
-use Rattle.gp_machine.specs.StateReannotation.{AreEqualButForAnnotations, state_reannotated}
-use Rattle.gp_base.proofs.SmallLemmas.{any-map, filter-map, map-map}
+use Rattle.gp_algebra.specs.Answers.{cells_of}
+use Rattle.gp_algebra.proofs.Erasure.{Reannotates}
+use Rattle.gp_machine.specs.StateReannotation.{AreEqualButForAnnotations}
 
 module _ {M N : Type 0} (h : M → N) where
   -- each version is the other one's with other annotations

@@ -1,31 +1,15 @@
 -- From the log and the spans of a history, every question is answered as the history would, and no run stops.
-use Rattle.std.proofs.Common.{◌≡◌, ℕ, zero, suc, ◌≤◌, Bool, true, false, cond, List, length, refl, sym, ap, ◌∙◌, subst, arith, Option, Some, None}
-use Rattle.std.specs.Prelude.{nat_lt}
-use Rattle.std.specs.Option.{option_or, option_map}
+use Rattle.gp_machine.proofs.Prelude.{◌≡◌, ℕ, zero, suc, ◌≤◌, Bool, true, false, cond, List, length, refl, sym, ap, ◌∙◌, subst, arith, Option, Some, None, nat_lt, option_or, option_map, SameBag, permuted, Element, answer, Select, Annotated, Annotations, unannotated, Refusal, E27, annotated_versions, computed, IsAsked, identified, to_commit, to_statement, to_version, committer_of, log_of, statement_count, versions_in, name_at, as_of, state_spans, Parameters, at_point, held_at, version_before, log_refusal, State, IsUnstopped, Span}
 use Rattle.std.specs.List.Sorted.{IsPermutation}
 use Rattle.gp_grammar.specs.Syntax as y
-use Rattle.gp_base.proofs.Bags.{SameBag, as_long}
-use Rattle.gp_base.proofs.Permutations.{permuted}
-use Rattle.gp_algebra.specs.Answers.{Element, answer}
-use Rattle.gp_algebra.specs.Statements.{Select}
-use Rattle.gp_base.specs.Annotated.{Annotated, Annotations, unannotated}
-use Rattle.gp_base.specs.declared.refusal.Refusal.{Refusal}
-use Rattle.gp_base.specs.declared.refusal.Refusal.TheVariants.{E24, E27}
+use Rattle.gp_base.proofs.Bags.{as_long}
+use Rattle.gp_base.specs.declared.refusal.Refusal.TheVariants.{E24}
 use Rattle.gp_machine.proofs.AskedLemmas.{asked}
 use Rattle.gp_machine.proofs.HeldPoints.{committed_stops, never_stops, simulated, version_is}
 use Rattle.gp_machine.proofs.LogLemmas.{versions_le}
 use Rattle.gp_machine.proofs.Simulation.{consistent}
-use Rattle.gp_machine.specs.Annotating.{annotated_versions, computed}
-use Rattle.gp_machine.specs.QuestionForms.{AreAlike, IsAsked, identified, to_commit, to_statement, to_version}
-use Rattle.gp_machine.specs.Entries.{committer_of, log_of, statement_count, versions_in}
-use Rattle.gp_machine.specs.Event.{name_at}
-use Rattle.gp_machine.specs.HistorySpans.{as_of, state_spans}
-use Rattle.gp_machine.specs.Parameters.{Parameters}
-use Rattle.gp_machine.specs.Points.{at_point, held_at, version_before}
-use Rattle.gp_machine.specs.Questions.{annotated_answer, annotation_stop, answer_refusal, difference_refusal, given, held_answer, log_refusal, needed_version, own_stop, rows_answer, stop_refusal}
-use Rattle.gp_machine.specs.State.{State}
-use Rattle.gp_machine.specs.Unstopped.{IsUnstopped}
-use Rattle.gp_versions.specs.declared.span.Span.{Span}
+use Rattle.gp_machine.specs.QuestionForms.{AreAlike}
+use Rattle.gp_machine.specs.Questions.{annotated_answer, annotation_stop, answer_refusal, difference_refusal, given, held_answer, needed_version, own_stop, rows_answer, stop_refusal}
 
 pub finish : {M : Type 0} (domain : Annotations M) (parameters : Parameters) (xs ys : List (Element M)) → SameBag xs ys
     → AreAlike (given (cond (nat_lt parameters.answer (length ys)) (Some E27) None) xs) (given (cond (nat_lt parameters.answer (length ys)) (Some E27) None) ys)

@@ -1,12 +1,5 @@
 -- Publishing a view puts the rows that were written in place of those of a later table, and the first committer wins, so a commit may publish.
-use Rattle.std.proofs.Common.{◌≡◌, ℕ, ◌<◌, ◌≤◌, Bool, true, false, cond, List, [], ◌∷◌, ◌++◌, refl, sym, ap, ◌∙◌, subst, arith, map, None}
-use Rattle.std.specs.Prelude.{◌||◌, ◌&&◌, not}
-use Rattle.std.specs.List.{AllByRecursion, filter}
-use Rattle.std.proofs.lemmas.List.{append-nil, map-append}
-use Rattle.std.proofs.lemmas.List.Elements.{filter-append}
-use Rattle.gp_algebra.specs.Effects.{Written}
-use Rattle.gp_base.specs.Annotated.{Annotated, Annotations, Database}
-use Rattle.gp_base.specs.Identities.{Identity, same_identity}
+use Rattle.gp_machine.proofs.Prelude.{◌≡◌, ℕ, ◌<◌, ◌≤◌, Bool, true, false, cond, List, [], ◌∷◌, ◌++◌, refl, sym, ap, ◌∙◌, subst, arith, map, None, ◌||◌, ◌&&◌, not, AllByRecursion, filter, append-nil, map-append, filter-append, Written, Annotated, Annotations, Database, Identity, same_identity, Based, pairs, cleared, is_written, next_version, unmarked, log_of, versions_in, conflict_of, IsFirst, Parameters, holds_identity, publish, IsReached, Active, State, HaveDifferentIdentities, AreSeenRows, IsViewOf, unwritten}
 use Rattle.gp_machine.proofs.BaseLemmas.{found}
 use Rattle.gp_machine.proofs.CommitLemmas.{holds_since}
 use Rattle.gp_machine.proofs.Distinct.{each_all, each_both, each_filter, each_weaker, filter-filter, filter_each, filter_none}
@@ -14,17 +7,7 @@ use Rattle.gp_machine.proofs.Made.{same_equal}
 use Rattle.gp_machine.proofs.PublishLemmas.{publish_is}
 use Rattle.gp_machine.proofs.ReachedLemmas.{not_lost}
 use Rattle.gp_machine.proofs.ViewLemmas.{holds_each, unique_merged}
-use Rattle.gp_machine.specs.Bases.{Based, pairs}
-use Rattle.gp_machine.specs.Committed.{cleared, is_written, next_version, unmarked}
-use Rattle.gp_machine.specs.Entries.{log_of, versions_in}
-use Rattle.gp_machine.specs.Event.{conflict_of}
-use Rattle.gp_machine.specs.Histories.{IsFirst}
-use Rattle.gp_machine.specs.Parameters.{Parameters}
-use Rattle.gp_machine.specs.Publishing.{holds_identity, publish}
 use Rattle.gp_machine.specs.Replacing.{AddsNoneOf, Replaces, rows_of_identity}
-use Rattle.gp_machine.specs.Reached.{IsReached}
-use Rattle.gp_machine.specs.State.{Active, State}
-use Rattle.gp_machine.specs.SeenRows.{HaveDifferentIdentities, AreSeenRows, IsViewOf, unwritten}
 
 -- a test of identities, at a row that has this one
 test_at : (r : Identity → Bool) (id : Identity) (b : Bool) → r id ≡ b → (other : Identity) → (r other && same_identity other id) ≡ (b && same_identity other id)

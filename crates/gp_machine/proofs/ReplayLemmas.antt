@@ -1,15 +1,5 @@
 -- Commits made again: without a stop they are a history, and those of a history's own log are that history.
-use Rattle.std.proofs.Common.{◌≡◌, ℕ, zero, suc, ◌+◌, ◌-◌, ◌<◌, ◌≤◌, Bool, true, false, cond, List, ◌++◌, length, map, Option, Some, None, refl, sym, ap, ◌∙◌, subst, arith, ⊎_elim}
-use Rattle.std.specs.Prelude.{nat_lt}
-use Rattle.std.specs.List.{AllByRecursion, filter}
-use Rattle.std.specs.Option.{option_or}
-use Rattle.std.proofs.lemmas.Bool.{false≢true, cases_lt, le-ltb}
-use Rattle.std.proofs.lemmas.List.{length-append, length-map}
-use Rattle.gp_algebra.specs.Effects.{Written}
-use Rattle.gp_base.specs.Annotated.{Annotated, Annotations, Database, Environment}
-use Rattle.gp_base.specs.Identities.{Identity}
-use Rattle.gp_base.specs.IdentityParts.{identity_transaction}
-use Rattle.gp_machine.proofs.ActiveLemmas.{IsOver}
+use Rattle.gp_machine.proofs.Prelude.{◌≡◌, ℕ, zero, suc, ◌+◌, ◌-◌, ◌<◌, ◌≤◌, Bool, true, false, cond, List, ◌++◌, length, map, Option, Some, None, refl, sym, ap, ◌∙◌, subst, arith, ⊎_elim, nat_lt, AllByRecursion, filter, option_or, false≢true, cases_lt, le-ltb, length-append, length-map, Written, Annotated, Annotations, Database, Environment, Identity, identity_transaction, pairs, cleared, is_written, merged, next_version, unmarked, Conflict, least_conflict, Log, log_of, Line, after, published_rows, IsFirst, IsHistory, next_written, span_from, spans_from, spans_of, spans_upto, state_spans, span_after, span_count, Parameters, ChecksTargets, run_stop, IsReached, Seen, seen_by, start_by, Replay, first_stop, replay_stop, replayed, rerun, version_stop, CommitsInOrder, replayed_spans, run_before, State, start, none_parts, some_none}
 use Rattle.gp_machine.proofs.BaseLemmas.{of_based}
 use Rattle.gp_machine.proofs.CommitLemmas.{Clean, IsMadeBy, all_sound, clean}
 use Rattle.gp_machine.proofs.CountLemmas.{all_counted}
@@ -22,25 +12,8 @@ use Rattle.gp_machine.proofs.RunLemmas.{before_agree, before_is, run_agree, run_
 use Rattle.gp_machine.proofs.SpanGrowth.{spans_grow}
 use Rattle.gp_machine.proofs.SpanRows.{written_rows}
 use Rattle.gp_machine.proofs.UnstoppedLemmas.{reached_unstopped}
-use Rattle.gp_machine.specs.Bases.{pairs}
-use Rattle.gp_machine.specs.Committed.{cleared, is_written, merged, next_version, unmarked}
-use Rattle.gp_machine.specs.Conflicts.{Conflict, least_conflict}
-use Rattle.gp_machine.specs.Entries.{Log, log_of}
-use Rattle.gp_machine.specs.Event.{Line, after, published_rows}
-use Rattle.gp_machine.specs.Histories.{IsFirst, IsHistory}
-use Rattle.gp_machine.specs.HistorySpans.{next_written, span_from, spans_from, spans_of, spans_upto, state_spans}
-use Rattle.gp_machine.specs.SpanCounts.{span_after, span_count}
-use Rattle.gp_machine.specs.Parameters.{Parameters}
-use Rattle.gp_machine.specs.CheckedTargets.{ChecksTargets}
-use Rattle.gp_machine.specs.Points.{RunStop, run_stop}
-use Rattle.gp_machine.specs.Reached.{IsReached}
-use Rattle.gp_machine.specs.Reading.{Seen}
-use Rattle.gp_machine.specs.ReadBy.{seen_by, start_by}
-use Rattle.gp_machine.specs.Replaying.{Replay, first_stop, replay_stop, replayed, rerun, version_stop}
-use Rattle.gp_machine.specs.ReplayForms.{CommitsInOrder, upto_version, replayed_spans}
-use Rattle.gp_machine.specs.Runs.{run_before}
-use Rattle.gp_machine.specs.State.{State, start}
-use Rattle.gp_base.proofs.SmallLemmas.{none_parts, some_none}
+use Rattle.gp_machine.specs.Points.{RunStop}
+use Rattle.gp_machine.specs.ReplayForms.{upto_version}
 
 -- ---- no stop
 
@@ -166,16 +139,6 @@ module _ {M : Type 0} (domain : Annotations M) (log : Log) (tables : ℕ) where
       before_again k l =
           sym (before_agree domain log (upto_version u log) t n (made u).committed (made u).committed (upto_same u log t n) (λ k l. refl) k l)
           ∙ before_is domain (upto_version u log) (made u).committed (made u).written before t n fit reads (λ k l. order.later u k within l) k l
-
-      -- it has made none of these versions
-      pub over_made : (read_committed : Bool) → IsOver domain (upto_version u log) (made u).committed (record { transaction = t; read_committed = read_committed; version = log.version t n; statements = n; seen = again u })
-      over_made read_committed = record {
-        seen = again_is;
-        version = refl;
-        read = reads;
-        rising = λ k l. order.later u k within l;
-        unfinished = λ v l is. let same : v ≡ u = order.once v u (omega arith) within is in omega arith;
-      }
 
       seen_next : seen_by domain (upto_version (suc u) log) t n (made (suc u)).committed ≡ again u
       seen_next =

@@ -1,31 +1,8 @@
 -- A homomorphism of annotations commutes with what transactions read, so it takes histories to histories, and with commits that are made again.
-use Rattle.std.proofs.Common.{◌≡◌, ℕ, zero, suc, ◌+◌, true, false, cond, List, length, Option, Some, None, refl, sym, ap, ◌∙◌, subst, map}
-use Rattle.std.specs.Prelude.{◌==◌, nat_lt}
-use Rattle.std.specs.List.{AllByRecursion}
-use Rattle.std.specs.Option.{option_or}
-use Rattle.gp_algebra.proofs.Erasure.{step_reannotated, wrote_reannotated}
-use Rattle.gp_algebra.specs.Effects.{Written}
-use Rattle.gp_algebra.specs.Reannotation.{IsHomomorphism, database_reannotated, reannotated}
-use Rattle.gp_algebra.specs.Statements.{Statement}
-use Rattle.gp_base.specs.Annotated.{Annotations, Database, Environment}
+use Rattle.gp_machine.proofs.Prelude.{◌≡◌, ℕ, zero, suc, ◌+◌, true, false, cond, List, Option, Some, None, refl, sym, ap, ◌∙◌, subst, map, ◌==◌, nat_lt, AllByRecursion, option_or, step_reannotated, wrote_reannotated, Written, IsHomomorphism, database_reannotated, reannotated, Statement, Annotations, Database, Environment, pairs, with_bases, merged, next_version, least_conflict, Log, committer_of, log_of, statement_count, published_rows, IsFirst, IsHistory, spans_of, Parameters, Seen, next_seen, started, wrote_by, seen_by, Replay, first_stop, replay_stop, replayed, rerun, run_written, version_stop, replayed_spans, run, run_before, stepped, State, with_value, seen_reannotated, state_reannotated, IsUnstopped}
 use Rattle.gp_machine.proofs.AnnotationLemmas.{merged_is, next_version_is, publishes_is, spans_is, with_mapped}
 use Rattle.gp_machine.proofs.PointReannotation.{before_reannotated, run_reannotated, run_stop_reannotated}
-use Rattle.gp_machine.specs.Bases.{Based, pairs, with_bases}
-use Rattle.gp_machine.specs.Committed.{merged, next_version}
-use Rattle.gp_machine.specs.Conflicts.{least_conflict}
-use Rattle.gp_machine.specs.Entries.{Log, committer_of, log_of, statement_count}
-use Rattle.gp_machine.specs.Event.{published_rows}
-use Rattle.gp_machine.specs.Histories.{IsFirst, IsHistory}
-use Rattle.gp_machine.specs.HistorySpans.{spans_of}
-use Rattle.gp_machine.specs.Parameters.{Parameters}
-use Rattle.gp_machine.specs.Reading.{Seen, next_seen, started, wrote_by}
-use Rattle.gp_machine.specs.ReadBy.{seen_by}
-use Rattle.gp_machine.specs.Replaying.{Replay, commit_stop, first_stop, remade, replay_stop, replayed, rerun, run_written, version_stop}
-use Rattle.gp_machine.specs.ReplayForms.{replayed_spans}
-use Rattle.gp_machine.specs.Runs.{run, run_before, stepped}
-use Rattle.gp_machine.specs.State.{State, with_value}
-use Rattle.gp_machine.specs.StateReannotation.{seen_reannotated, state_reannotated}
-use Rattle.gp_machine.specs.Unstopped.{IsUnstopped}
+use Rattle.gp_machine.specs.Replaying.{commit_stop, remade}
 
 module _ {M N : Type 0} (domain : Annotations M) (other : Annotations N) (h : M → N) (keeps : IsHomomorphism domain other h) where
   abbrev mapped : Environment M → Environment N

@@ -1,18 +1,8 @@
 -- Where no commit of a log stops that is made again, the state that they lead to is a history in which none stops.
-use Rattle.std.proofs.Common.{◌≡◌, ℕ, zero, suc, ◌<◌, ◌≤◌, List, length, None, refl, sym, ap, ◌∙◌, subst, arith, ⊎_elim}
-use Rattle.std.proofs.lemmas.Bool.{cases_lt}
-use Rattle.gp_base.specs.declared.table.Table.{Table}
-use Rattle.gp_base.specs.Annotated.{Annotations}
+use Rattle.gp_machine.proofs.Prelude.{◌≡◌, ℕ, zero, suc, ◌<◌, ◌≤◌, List, length, None, refl, sym, ap, ◌∙◌, subst, arith, ⊎_elim, cases_lt, Table, Annotations, Entry, Log, log_of, versions_in, Parameters, run_stop, Replay, replay_stop, replayed, version_stop, CommitsInOrder, IsUnstopped, none_parts}
 use Rattle.gp_machine.proofs.ReplayLemmas.{committed_stays, history_made, same_log, unstopped}
 use Rattle.gp_machine.proofs.RunLemmas.{stop_agree}
-use Rattle.gp_machine.specs.Entries.{Entry, Log, log_of, versions_in}
-use Rattle.gp_machine.specs.Parameters.{Parameters}
-use Rattle.gp_machine.specs.Points.{run_stop}
 use Rattle.gp_machine.specs.Replayed.{replayed_state}
-use Rattle.gp_machine.specs.Replaying.{Replay, replay_stop, replayed, version_stop}
-use Rattle.gp_machine.specs.ReplayForms.{CommitsInOrder}
-use Rattle.gp_machine.specs.Unstopped.{IsUnstopped}
-use Rattle.gp_base.proofs.SmallLemmas.{none_parts}
 
 module _ {M : Type 0} (domain : Annotations M) (parameters : Parameters) (log : Log) (tables : ℕ) where
   abbrev made : ℕ → Replay M

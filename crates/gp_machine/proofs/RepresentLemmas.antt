@@ -1,13 +1,5 @@
 -- What an engine keeps represents the next state after each action.
-use Rattle.std.proofs.Common.{◌≡◌, ℕ, zero, suc, ◌+◌, ◌≤◌, Bool, true, false, cond, List, [], ◌∷◌, ◌++◌, length, refl, sym, ap, ◌∙◌, subst, arith, Option, Some, None, ◌≢◌}
-use Rattle.std.specs.Prelude.{◌==◌}
-use Rattle.std.specs.List.{filter}
-use Rattle.std.specs.Option.{is_none}
-use Rattle.gp_algebra.specs.Effects.{step, wrote}
-use Rattle.gp_algebra.specs.Statements.{Statement}
-use Rattle.gp_base.specs.Annotated.{Database, unannotated}
-use Rattle.gp_base.specs.declared.table.Table.{Table}
-use Rattle.gp_grammar.specs.Syntax.{Command}
+use Rattle.gp_machine.proofs.Prelude.{◌≡◌, ℕ, zero, suc, ◌+◌, ◌≤◌, Bool, true, false, cond, List, [], ◌∷◌, ◌++◌, length, refl, sym, ap, ◌∙◌, subst, arith, Option, Some, None, ◌≢◌, ◌==◌, filter, is_none, step, wrote, Statement, Database, unannotated, Table, Command, pairs, next_version, Began, Committed, Created, End, Ended, Entry, Lost, Ran, begin_version, log_of, transactions_in, versions_in, accepted, began, conflict_of, created, ended, published, published_rows, seen_after, start_now, version_now, as_of, spans_of, Parameters, IsReached, AreWritesOf, Kept, Overlay, Represents, RepresentsActive, RepresentsSession, base_after, version_to_read, view_at, Active, State, with_value, after_commit, rows_at, Span, Write, both_ways, eq_itself, eq_not}
 use Rattle.gp_machine.proofs.ActiveLemmas.{active_over, active_version}
 use Rattle.gp_machine.proofs.BaseLemmas.{base_more}
 use Rattle.gp_machine.proofs.LogLemmas.{at_other}
@@ -15,21 +7,7 @@ use Rattle.gp_machine.proofs.OverlayLemmas.{now_is, now_within, start_shown}
 use Rattle.gp_machine.proofs.ReachedLemmas.{published_reached}
 use Rattle.gp_machine.proofs.SpanCommit.{commit_spans}
 use Rattle.gp_machine.proofs.SpanLaws.{plain_spans_rows}
-use Rattle.gp_machine.specs.Bases.{pairs}
-use Rattle.gp_machine.specs.Committed.{next_version}
-use Rattle.gp_machine.specs.Entries.{Began, Committed, Created, End, Ended, Entry, Lost, Ran, begin_version, log_of, transactions_in, versions_in}
-use Rattle.gp_machine.specs.Event.{accepted, began, conflict_of, created, ended, published, published_rows, seen_after, start_now, version_now}
-use Rattle.gp_machine.specs.HistorySpans.{as_of, spans_of}
-use Rattle.gp_machine.specs.Parameters.{Parameters}
-use Rattle.gp_machine.specs.Reached.{IsReached}
-use Rattle.gp_machine.specs.Represents.{Applied, AreWritesOf, IsNew, Kept, Overlay, Represents, RepresentsActive, RepresentsSession, base_after, rows_below, version_to_read, view_at}
-use Rattle.gp_machine.specs.State.{Active, State, with_value}
-use Rattle.gp_versions.specs.Commits.{after_commit}
-use Rattle.gp_versions.specs.Spans.{rows_at}
-use Rattle.gp_versions.specs.declared.span.Span.{Span}
-use Rattle.gp_versions.specs.declared.span.Write.{Write}
-use Rattle.std.proofs.lemmas.Bool.{both_ways}
-use Rattle.gp_base.proofs.SmallLemmas.{eq_itself, eq_not}
+use Rattle.gp_machine.specs.Represents.{Applied, IsNew, rows_below}
 
 -- the spans hold the same rows of the versions up to this one
 abbrev KeepVersions : (ℕ → List Span) → (ℕ → List Span) → ℕ → Type 0

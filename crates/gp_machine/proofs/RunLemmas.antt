@@ -1,12 +1,5 @@
 -- A transaction that runs again: over versions that agree it does the same, and over those of a history it reads and writes what it did.
-use Rattle.std.proofs.Common.{◌≡◌, ◌≢◌, ℕ, zero, suc, ◌+◌, ◌<◌, ◌≤◌, Bool, true, false, cond, List, refl, sym, ap, ◌∙◌, arith, ◌⊎◌, inl, inr, ⊎_elim}
-use Rattle.std.specs.Prelude.{◌==◌}
-use Rattle.std.specs.Option.{option_or}
-use Rattle.std.proofs.lemmas.Bool.{cases_lt}
-use Rattle.gp_algebra.specs.Effects.{Written}
-use Rattle.gp_base.specs.Annotated.{Annotations, Environment}
-use Rattle.gp_base.specs.Identities.{Identity}
-use Rattle.gp_base.specs.IdentityParts.{identity_transaction}
+use Rattle.gp_machine.proofs.Prelude.{◌≡◌, ◌≢◌, ℕ, zero, suc, ◌<◌, ◌≤◌, Bool, true, false, cond, List, refl, sym, ap, ◌∙◌, arith, ◌⊎◌, inl, inr, ⊎_elim, ◌==◌, option_or, cases_lt, Written, Annotations, Environment, Identity, identity_transaction, pairs, with_bases, is_written, merged, Log, IsHistory, Parameters, run_stop, statement_stop, holds_identity, publish, Seen, wrote_by, seen_by, start_by, run_written, refreshed, run, run_before, stepped, AllByRecursion}
 use Rattle.gp_machine.proofs.BaseLemmas.{found}
 use Rattle.gp_machine.proofs.CommitLemmas.{Clean, IsMadeBy, all_sound, bases_within, clean, holds_since, view_kept}
 use Rattle.gp_machine.proofs.Distinct.{each_both}
@@ -14,18 +7,6 @@ use Rattle.gp_machine.proofs.FoundLemmas.{bases_read, holds_own}
 use Rattle.gp_machine.proofs.LogLemmas.{SameFor, SameSeen}
 use Rattle.gp_machine.proofs.PublishLemmas.{publish_is}
 use Rattle.gp_machine.proofs.ViewLemmas.{holds_each}
-use Rattle.gp_machine.specs.Bases.{pairs, with_bases}
-use Rattle.gp_machine.specs.Committed.{is_written, merged}
-use Rattle.gp_machine.specs.Entries.{Log}
-use Rattle.gp_machine.specs.Histories.{IsHistory}
-use Rattle.gp_machine.specs.Parameters.{Parameters}
-use Rattle.gp_machine.specs.Points.{run_stop, statement_stop}
-use Rattle.gp_machine.specs.Publishing.{holds_identity, publish}
-use Rattle.gp_machine.specs.Reading.{Seen, wrote_by}
-use Rattle.gp_machine.specs.ReadBy.{seen_by, start_by}
-use Rattle.gp_machine.specs.Replaying.{run_written}
-use Rattle.gp_machine.specs.Runs.{refreshed, run, run_before, stepped}
-use Rattle.std.specs.List.{AllByRecursion}
 
 -- ---- over versions that agree
 
@@ -87,13 +68,6 @@ module _ {M : Type 0} (domain : Annotations M) (log : Log) (committed : Environm
       by false e =
           sym (holds_since domain log committed written history (suc u) u table id (omega arith) inside (λ w a b. let is : w ≡ suc u = omega arith in ap (λ v. is_written table id (written v)) is ∙ e))
           ∙ new
-
-  there_between : (more b v table : ℕ) (id : Identity) → b ≤ v → more + v ≤ log.versions → holds_identity id (committed b table) ≡ true → holds_identity id (committed (more + v) table) ≡ true → holds_identity id (committed v table) ≡ true
-  there_between zero b v table id l inside old new = let is : zero + v ≡ v = omega arith in ap (λ w. holds_identity id (committed w table)) (sym is) ∙ new
-  there_between (suc more) b v table id l inside old new =
-      let is : suc more + v ≡ suc (more + v) = omega arith in
-      there_between more b v table id l (omega arith) old
-      (there_before (more + v) b table id (omega arith) (omega arith) old (ap (λ w. holds_identity id (committed w table)) (sym is) ∙ new))
 
   pub there : (b v w table : ℕ) (id : Identity) → b ≤ v → v ≤ w → w ≤ log.versions → holds_identity id (committed b table) ≡ true → holds_identity id (committed w table) ≡ true → holds_identity id (committed v table) ≡ true
   there b v zero table id l m inside old new = let is : v ≡ zero = omega arith in ap (λ x. holds_identity id (committed x table)) is ∙ new

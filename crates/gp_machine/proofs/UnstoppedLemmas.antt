@@ -1,21 +1,7 @@
 -- In no state that the history machine reaches a transaction that made a version passes a limit.
-use Rattle.std.proofs.Common.{◌≡◌, ℕ, zero, suc, ◌<◌, ◌≤◌, List, Option, Some, None, refl, sym, ap, ◌∙◌, arith, ⊎_elim}
-use Rattle.std.specs.Option.{option_or}
-use Rattle.std.proofs.lemmas.Bool.{cases_lt}
-use Rattle.gp_algebra.specs.Statements.{Statement}
-use Rattle.gp_base.specs.Annotated.{Annotations, Environment}
+use Rattle.gp_machine.proofs.Prelude.{◌≡◌, ℕ, zero, suc, ◌<◌, ◌≤◌, List, Option, Some, None, refl, sym, ap, ◌∙◌, arith, ⊎_elim, option_or, cases_lt, Statement, Annotations, Environment, Log, committer_of, log_of, statement_at, statement_count, versions_in, Line, after, Parameters, run_stop, statement_stop, IsReached, seen_by, start_by, refreshed, run, run_before, State, start, IsUnstopped, none_parts}
 use Rattle.gp_machine.proofs.CommitLemmas.{all_sound, refreshed_is, run_is_seen}
 use Rattle.gp_machine.proofs.ReachedLemmas.{all_reached}
-use Rattle.gp_machine.specs.Entries.{Log, committer_of, log_of, statement_at, statement_count, versions_in}
-use Rattle.gp_machine.specs.Event.{Line, after}
-use Rattle.gp_machine.specs.Parameters.{Parameters}
-use Rattle.gp_machine.specs.Points.{run_stop, statement_stop}
-use Rattle.gp_machine.specs.Reached.{IsReached}
-use Rattle.gp_machine.specs.ReadBy.{seen_by, start_by}
-use Rattle.gp_machine.specs.Runs.{refreshed, run, run_before}
-use Rattle.gp_machine.specs.State.{State, start}
-use Rattle.gp_machine.specs.Unstopped.{IsUnstopped}
-use Rattle.gp_base.proofs.SmallLemmas.{none_parts}
 
 -- where a run does not stop, none of its first statements does
 pub front_unstopped : {M : Type 0} (domain : Annotations M) (parameters : Parameters) (log : Log) (t k n : ℕ) (versions : Environment M) → k ≤ n → run_stop domain parameters log t n versions ≡ None → run_stop domain parameters log t k versions ≡ None

@@ -1,32 +1,17 @@
 -- Worked histories. The expected replies, spans and provenance are written out from the rules.
-use Rattle.std.proofs.Common.{◌≡◌, ℕ, zero, suc, Bool, true, false, List, [], ◌∷◌, refl, Some, None, Result, Ok, Err}
+use Rattle.gp_machine.proofs.Prelude.{◌≡◌, ℕ, zero, suc, Bool, true, false, List, [], ◌∷◌, refl, Some, None, Result, Ok, Err, Cell, Refusal, E09, E10, E11, E12, E14, E20, E21, E22, E23, E27, Table, Updated, Identity, identity, no_sources, Command, Statement, insert, update, delete, read, Reply, annotated_versions, begin_version, committer_of, statement_count, statement_version, version_of, Line, line_event, after, state_spans, Parameters, at_point, held_at, log_refusal, State, start}
 use Rattle.std.specs.Prelude.{codes, pos}
-use Rattle.gp_base.specs.declared.cell.Cell.{Cell}
 use Rattle.gp_base.specs.declared.cell.Cell.TheVariants.{Int}
 use Rattle.gp_base.specs.declared.limit.Limit.TheVariants as limit
 use Rattle.gp_base.specs.declared.refusal.Fate.TheVariants.{Lost}
-use Rattle.gp_base.specs.declared.refusal.Refusal.{Refusal}
-use Rattle.gp_base.specs.declared.refusal.Refusal.TheVariants.{E07, E09, E10, E11, E12, E14, E20, E21, E22, E23, E27}
-use Rattle.gp_base.specs.declared.table.Table.{Table}
-use Rattle.gp_base.specs.declared.token.Token.TheVariants.{Inserted, Updated}
+use Rattle.gp_base.specs.declared.refusal.Refusal.TheVariants.{E07}
+use Rattle.gp_base.specs.declared.token.Token.TheVariants.{Inserted}
 use Rattle.gp_base.specs.Annotated.{monomials}
-use Rattle.gp_base.specs.Identities.{Identity, identity, no_sources}
 use Rattle.gp_base.specs.Tokens.{Monomial}
 use Rattle.gp_expr.specs.declared.expr.Cmp.TheVariants.{Eq}
 use Rattle.gp_expr.specs.Expressions.{col, constant, add, mul, always, compare}
 use Rattle.gp_grammar.specs.Syntax as y
-use Rattle.gp_grammar.specs.Syntax.{Command}
-use Rattle.gp_algebra.specs.Statements.{Statement, insert, update, delete, read}
-use Rattle.gp_machine.specs.declared.reply.Reply.{Reply}
 use Rattle.gp_machine.specs.declared.reply.Reply.TheVariants as reply
-use Rattle.gp_machine.specs.Annotating.{annotated_versions}
-use Rattle.gp_machine.specs.Entries.{begin_version, committer_of, statement_count, statement_version, version_of}
-use Rattle.gp_machine.specs.Event.{Line, line_event, after}
-use Rattle.gp_machine.specs.HistorySpans.{state_spans}
-use Rattle.gp_machine.specs.Parameters.{Parameters}
-use Rattle.gp_machine.specs.Points.{at_point, held_at}
-use Rattle.gp_machine.specs.Questions.{log_refusal}
-use Rattle.gp_machine.specs.State.{State, start}
 
 abbrev number : ℕ → Cell
 number n = Int (pos n)

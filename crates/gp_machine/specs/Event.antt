@@ -10,7 +10,7 @@ use Rattle.gp_base.specs.declared.refusal.Refusal.TheVariants.{E11, E12, E13, E1
 use Rattle.gp_base.specs.declared.table.Table.{Table}
 use Rattle.gp_base.specs.Annotated.{Annotations, Database}
 use Rattle.gp_grammar.specs.Syntax.{Command}
-use Rattle.gp_algebra.specs.Statements.{Statement, insert, insert_select, update, delete, read, target}
+use Rattle.gp_algebra.specs.Statements.{Statement, read, target}
 use Rattle.gp_algebra.specs.Answers.{answer, cells_of}
 use Rattle.gp_algebra.specs.Effects.{wrote, is_over_rows, is_over_nodes}
 use Rattle.gp_machine.specs.declared.reply.Reply.{Reply}

@@ -33,3 +33,8 @@ pub mod SpanCounts
 pub mod CheckedTargets
 pub mod ConflictForms
 pub mod ReplayForms
+pub mod Looks
+pub mod RowChanges
+pub mod Precedence
+pub mod SerialRuns
+pub mod SerialForms

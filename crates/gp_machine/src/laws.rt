@@ -46,6 +46,8 @@ ghost use Rattle.gp_machine.specs.ReplayForms.{CommitsInOrder, upto_version, rep
 ghost use Rattle.gp_machine.specs.Represents.{Kept, Overlay, Represents, kept_start};
 ghost use Rattle.gp_machine.specs.ReadBy.{start_by};
 ghost use Rattle.gp_machine.specs.Runs.{at_commit, run, run_before};
+ghost use Rattle.gp_machine.specs.SerialForms.{AreOnce, IsSerialAs, committers};
+ghost use Rattle.gp_machine.specs.SerialRuns.{is_serial, serial_log, serial_replay};
 ghost use Rattle.gp_machine.specs.State.{Active, State, start};
 ghost use Rattle.gp_machine.specs.StateReannotation.{AreEqualButForAnnotations, AreReannotated, IsReannotated, outcome_reannotated, state_reannotated};
 ghost use Rattle.gp_machine.specs.Unstopped.{IsUnstopped};
@@ -475,4 +477,32 @@ pub fn transactions_read_what_their_runs_give<M>()
         → (k : ℕ) → k ≤ statement_count t state.entries
         → run_stop domain parameters (log_of state.entries) t k
         (annotated_versions domain state.entries spans) ≡ None }
+{}
+
+/// Transactions that run one after another in any order, each from its BEGIN to its COMMIT, are a history if none of their commits stops
+/// (`history`). Over the row versions of a history, in whatever order, no transaction that committed stops (`runs`). Where they do
+/// one after another so what they did over these, they are a history in which each statement changes the same rows, each query answers
+/// the same rows, and the last version has the same rows as there (`same`).
+pub fn serial_orders_are_histories()
+    ensures history { (parameters : Parameters) (log : Log) (order : List ℕ) (tables : ℕ)
+        → AreOnce order
+        → replay_stop unannotated (serial_log order log) parameters tables (length order) ≡ None
+        → IsHistory unannotated (serial_log order log)
+        (serial_replay unannotated order log tables).committed
+        (serial_replay unannotated order log tables).written }
+    ensures same { (parameters : Parameters) (lines : List Line) (spans : ℕ → List Span) → ((table : ℕ)
+        → IsPermutation (spans table) (state_spans (after unannotated parameters start lines) table))
+        → (order : List ℕ) → AreOnce order
+        → IsPermutation order (committers (after unannotated parameters start lines))
+        → is_serial parameters (log_of (after unannotated parameters start lines).entries)
+        (length (after unannotated parameters start lines).catalogue)
+        (as_of unannotated spans) order ≡ true
+        → IsSerialAs (after unannotated parameters start lines) order }
+    ensures runs { (parameters : Parameters) (lines : List Line) (spans : ℕ → List Span) → ((table : ℕ)
+        → IsPermutation (spans table) (state_spans (after unannotated parameters start lines) table))
+        → (u : ℕ) → u < versions_in (after unannotated parameters start lines).entries
+        → run_stop unannotated parameters (log_of (after unannotated parameters start lines).entries)
+        (committer_of (suc u) (after unannotated parameters start lines).entries)
+        (statement_count (committer_of (suc u) (after unannotated parameters start lines).entries)
+        (after unannotated parameters start lines).entries) (as_of unannotated spans) ≡ None }
 {}

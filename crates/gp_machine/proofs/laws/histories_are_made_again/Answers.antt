@@ -1,8 +1,5 @@
 use Rattle.gp_machine.proofs.ReplayLemmas.{history_made, own_spans, own_unstopped}
-use Rattle.gp_machine.specs.Entries.{versions_in}
-use Rattle.gp_machine.specs.Event.{after}
-use Rattle.gp_machine.specs.State.{start}
-use Rattle.std.proofs.Common.{arith}
+use Rattle.gp_machine.proofs.Prelude.{versions_in, after, start, arith}
 use Rattle.gp_machine.proofs.laws.histories_are_made_again.Goals as goal
 
 pub returns-clause-unstopped : goal.returns-clause-unstopped
