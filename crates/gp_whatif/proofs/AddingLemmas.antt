@@ -1,5 +1,5 @@
 -- A log with a statement added, made from the oldest entry on.
-use Rattle.std.proofs.Common.{◌≡◌, ℕ, zero, suc, ◌+◌, ◌<◌, ◌≤◌, Bool, true, false, cond, List, [], ◌∷◌, ◌++◌, length, map, take, Option, Some, None, refl, sym, ap, ◌∙◌, subst, arith}
+use Rattle.std.proofs.Common.{◌≡◌, ℕ, suc, ◌+◌, ◌<◌, ◌≤◌, Bool, true, false, cond, List, [], ◌∷◌, ◌++◌, length, take, Option, Some, None, refl, sym, ap, ◌∙◌, subst, arith}
 use Rattle.std.specs.Prelude.{◌==◌, nat_lt, slice_get}
 use Rattle.std.specs.List.{AllByRecursion}
 use Rattle.std.proofs.lemmas.Bool.Decides.{nat_tests}
@@ -18,21 +18,15 @@ use Rattle.gp_log.specs.Logs.{entry_view, log_view, what_view}
 use Rattle.gp_log.specs.declared.entry.Entry.{Entry}
 use Rattle.gp_log.specs.declared.entry.What.{What}
 use Rattle.gp_log.specs.declared.entry.What.TheVariants as w
-use Rattle.gp_whatif.specs.Changed.{doubled, is_step_of, tables_at_end, with_added}
+use Rattle.gp_whatif.specs.Changed.{is_step_of, tables_at_end, with_added}
 use Rattle.gp_whatif.specs.Changing.{IsLastStep, Numbers, SameStep, is_last, step_of}
-use Rattle.gp_whatif.proofs.ChangedLemmas.{added_same, doubled_same}
-use Rattle.gp_whatif.proofs.ChangingLemmas.{addable, count_doubled, creates_new, log-all, log-more, numbers_next}
+use Rattle.gp_log.proofs.FindingLemmas.{log-more}
+use Rattle.gp_whatif.proofs.ChangedLemmas.{added_same}
+use Rattle.gp_whatif.proofs.ChangingLemmas.{addable, creates_new, log-all, numbers_next}
 use Rattle.std.proofs.lemmas.Bool.{eqb-true, ltb-true}
 use Rattle.gp_base.proofs.SmallLemmas.{eq_turned}
 
 -- ---- steps of a transaction
-
-doubled-step : (t : ℕ) (entry : m.Entry) → is_step_of t (doubled entry) ≡ is_step_of t entry
-doubled-step t (m.Created line session table) = refl
-doubled-step t (m.Began line session u level) = refl
-doubled-step t (m.Ran line session command u statement) = refl
-doubled-step t (m.Committed line session u) = refl
-doubled-step t (m.Ended line session end u) = refl
 
 -- what is no step of a transaction is no statement of it
 count-kept : (t : ℕ) (entry : m.Entry) (older : List m.Entry) → is_step_of t entry ≡ false → statement_count t (entry ∷ older) ≡ statement_count t older
@@ -48,16 +42,6 @@ entry-same a b e = cc
 module _ (t : ℕ) (entries : List Entry) where
   abbrev Last : ℕ → Option ℕ → Type 0
   Last upto last = IsLastStep t entries upto last
-
-  pub last_none : Last zero None
-  last_none = record {
-    within = λ place e. absurd cc;
-    here = λ place entry e at. absurd cc;
-    later = λ before place entry e l m at. absurd cc;
-    none = λ e. tt;
-    tables = refl;
-    count = λ place e. absurd cc;
-  }
 
   -- an entry that is a step
   pub last_found : (place : ℕ) (entry : Entry) (last : Option ℕ) → slice_get entries place ≡ Some entry → is_step_of t (entry_view entry) ≡ true → Last (place + 1) (Some place)
@@ -92,10 +76,6 @@ module _ (t : ℕ) (entries : List Entry) where
           less : (a b : ℕ) → (a == b) ≡ false → a ≤ b → a < b
           less a b e l = grind (arith, nat_tests)
 
-  -- all entries
-  pub last_all : (upto : ℕ) (last : Option ℕ) → upto ≡ length entries → Last upto last → Last (length entries) last
-  last_all upto last e holds = subst (λ n. Last n last) e holds
-
 -- ---- the changed log up to a place
 
 -- the place of the last step is among the first entries, this many
@@ -105,13 +85,6 @@ is_behind (Some last) upto = nat_lt last upto
 
 less-true : (a b : ℕ) → a < b → nat_lt a b ≡ true
 less-true a b l = grind (arith, nat_tests)
-
-behind_none : (last : Option ℕ) → is_behind last zero ≡ false
-behind_none None = refl
-behind_none (Some place) = none place
-  where
-    none : (a : ℕ) → nat_lt a zero ≡ false
-    none a = grind (arith, nat_tests)
 
 behind_kept : (last : Option ℕ) (place : ℕ) → is_last last place ≡ false → is_behind last (place + 1) ≡ is_behind last place
 behind_kept None place other = refl
@@ -147,12 +120,12 @@ module _ (t : ℕ) (command : Command) (statement : Statement) where
   extra-tables false entries = refl
 
   -- nothing is added where there is no step
-  added-none : (entries : List m.Entry) → AllByRecursion (λ (x : m.Entry). is_step_of t x ≡ false) entries → with_added t command statement (map doubled entries) ≡ map doubled entries
+  added-none : (entries : List m.Entry) → AllByRecursion (λ (x : m.Entry). is_step_of t x ≡ false) entries → with_added t command statement entries ≡ entries
   added-none [] all = refl
   added-none (entry ∷ older) all =
-      ap (λ b. cond b (m.Ran (suc (line_of (doubled entry))) (session_of (doubled entry)) command t statement ∷ doubled entry ∷ map doubled older) (doubled entry ∷ with_added t command statement (map doubled older)))
-      (doubled-step t entry ∙ all.0)
-      ∙ ap (λ es. doubled entry ∷ es) (added-none older all.1)
+      ap (λ b. cond b (m.Ran (suc (line_of entry)) (session_of entry) command t statement ∷ entry ∷ older) (entry ∷ with_added t command statement older))
+      all.0
+      ∙ ap (λ es. entry ∷ es) (added-none older all.1)
 
   -- the other transactions have as many statements
   count-added : (u : ℕ) (entries : List m.Entry) → (t == u) ≡ false → statement_count u (with_added t command statement entries) ≡ statement_count u entries
@@ -190,20 +163,20 @@ module _ (t : ℕ) (command : Command) (statement : Statement) where
 
   -- the statement behind a step
   added-here : (line session v : ℕ) (what : What) (older : List m.Entry) → is_step_of t (what_view line session v what) ≡ true
-      → with_added t command statement (doubled (what_view line session v what) ∷ older)
-      ≡ m.Ran (suc (line + line)) session command v statement ∷ doubled (what_view line session v what) ∷ older
+      → with_added t command statement (what_view line session v what ∷ older)
+      ≡ m.Ran (suc line) session command v statement ∷ what_view line session v what ∷ older
   added-here line session v (w.Begin level) older e =
-      ap (λ b. cond b (m.Ran (suc (line + line)) session command t statement ∷ here ∷ older) (here ∷ with_added t command statement older)) e
-      ∙ ap (λ u. m.Ran (suc (line + line)) session command u statement ∷ here ∷ older) (sym (eqb-true v t e))
+      ap (λ b. cond b (m.Ran (suc line) session command t statement ∷ here ∷ older) (here ∷ with_added t command statement older)) e
+      ∙ ap (λ u. m.Ran (suc line) session command u statement ∷ here ∷ older) (sym (eqb-true v t e))
     where
       here : m.Entry
-      here = m.Began (line + line) session v level
+      here = m.Began line session v level
   added-here line session v (w.Statement k own stmt) older e =
-      ap (λ b. cond b (m.Ran (suc (line + line)) session command t statement ∷ here ∷ older) (here ∷ with_added t command statement older)) e
-      ∙ ap (λ u. m.Ran (suc (line + line)) session command u statement ∷ here ∷ older) (sym (eqb-true v t e))
+      ap (λ b. cond b (m.Ran (suc line) session command t statement ∷ here ∷ older) (here ∷ with_added t command statement older)) e
+      ∙ ap (λ u. m.Ran (suc line) session command u statement ∷ here ∷ older) (sym (eqb-true v t e))
     where
       here : m.Entry
-      here = doubled (what_view line session v (w.Statement k own stmt))
+      here = what_view line session v (w.Statement k own stmt)
   added-here line session v (w.Create table) older e = absurd cc
   added-here line session v w.Commit older e = absurd cc
   added-here line session v w.Lost older e = absurd cc
@@ -212,17 +185,11 @@ module _ (t : ℕ) (command : Command) (statement : Statement) where
   -- the log up to a place, with the statement added
   pub record Extended (entries : List Entry) (last : Option ℕ) (place : ℕ) (new : List Entry) : Type 0 where
     pub count : length new ≡ place + cond (is_behind last place) 1 0
-    pub view : log_view new ≡ extra (is_behind last place) (map doubled (log_view (take place entries)))
+    pub view : log_view new ≡ extra (is_behind last place) (log_view (take place entries))
 
   module _ (entries : List Entry) (last : Option ℕ) (is : IsLastStep t entries (length entries) last) where
     abbrev before : ℕ → List m.Entry
     before place = log_view (take place entries)
-
-    pub extended_none : Extended entries last zero []
-    extended_none = record {
-      count = let front : cond {A = ℕ} (is_behind last zero) 1 0 ≡ 0 = ap (λ b. cond b 1 0) (behind_none last) in omega arith;
-      view = sym (ap (λ b. extra b []) (behind_none last));
-    }
 
     pub few_here : (place : ℕ) (new : List Entry) → is_last last place ≡ true → Extended entries last place new → length new ≡ place
     few_here place new here holds =
@@ -240,17 +207,16 @@ module _ (t : ℕ) (command : Command) (statement : Statement) where
         → IsNumbered (before place) entry → SameStep copy entry → Extended entries last place new → IsAddable (log_view new) copy
     extended_addable place new entry copy different few at number same holds =
         subst (λ es. IsAddable es copy) (sym holds.view)
-        (addable (before place) (extra (is_behind last place) (map doubled (before place))) entry copy
-        (extra-tables (is_behind last place) (map doubled (before place)) ∙ (doubled_same (before place)).tables)
+        (addable (before place) (extra (is_behind last place) (before place)) entry copy
+        (extra-tables (is_behind last place) (before place))
         (counts (is_behind last place) refl) same (creates_new entries place entry different few at, number))
       where
-        counts : (b : Bool) → is_behind last place ≡ b → (k : ℕ) → step_of entry.what ≡ Numbers k → statement_count entry.t (extra b (map doubled (before place))) ≡ statement_count entry.t (before place)
+        counts : (b : Bool) → is_behind last place ≡ b → (k : ℕ) → step_of entry.what ≡ Numbers k → statement_count entry.t (extra b (before place)) ≡ statement_count entry.t (before place)
         counts true behind k step =
-            count-added entry.t (map doubled (before place)) (not-own entry.line entry.session entry.t entry.what k step (no-step place entry at behind))
-            ∙ count_doubled entry.t (before place)
-        counts false behind k step = count_doubled entry.t (before place)
+            count-added entry.t (before place) (not-own entry.line entry.session entry.t entry.what k step (no-step place entry at behind))
+        counts false behind k step = refl
 
-    pub extended_next : (place : ℕ) (new : List Entry) (entry copy : Entry) → slice_get entries place ≡ Some entry → is_last last place ≡ false → entry_view copy ≡ doubled (entry_view entry)
+    pub extended_next : (place : ℕ) (new : List Entry) (entry copy : Entry) → slice_get entries place ≡ Some entry → is_last last place ≡ false → entry_view copy ≡ entry_view entry
         → Extended entries last place new → Extended entries last (place + 1) (new ++ copy ∷ [])
     extended_next place new entry copy at other view holds = record {
       count =
@@ -259,34 +225,34 @@ module _ (t : ℕ) (command : Command) (statement : Statement) where
       view =
           log-pushed new copy ∙ (λ i. view i ∷ holds.view i)
           ∙ push (is_behind last place) (no-step place entry at)
-          ∙ (ap (λ b. extra b (doubled (entry_view entry) ∷ map doubled (before place))) (sym (behind_kept last place other))
-          ∙ ap (λ es. extra (is_behind last (place + 1)) (map doubled es)) (sym (log-more entries place entry at)));
+          ∙ (ap (λ b. extra b (entry_view entry ∷ before place)) (sym (behind_kept last place other))
+          ∙ ap (λ es. extra (is_behind last (place + 1)) es) (sym (log-more entries place entry at)));
     }
       where
-        push : (b : Bool) → (b ≡ true → is_step_of t (entry_view entry) ≡ false) → doubled (entry_view entry) ∷ extra b (map doubled (before place)) ≡ extra b (doubled (entry_view entry) ∷ map doubled (before place))
+        push : (b : Bool) → (b ≡ true → is_step_of t (entry_view entry) ≡ false) → entry_view entry ∷ extra b (before place) ≡ extra b (entry_view entry ∷ before place)
         push true is =
-            sym (ap (λ b. cond b (m.Ran (suc (line_of (doubled (entry_view entry)))) (session_of (doubled (entry_view entry))) command t statement ∷ doubled (entry_view entry) ∷ map doubled (before place)) (doubled (entry_view entry) ∷ with_added t command statement (map doubled (before place))))
-            (doubled-step t (entry_view entry) ∙ is refl))
+            sym (ap (λ b. cond b (m.Ran (suc (line_of (entry_view entry))) (session_of (entry_view entry)) command t statement ∷ entry_view entry ∷ before place) (entry_view entry ∷ with_added t command statement (before place)))
+            (is refl))
         push false is = refl
 
     -- the last step is copied
-    copied : (place : ℕ) (new : List Entry) (entry copy : Entry) → slice_get entries place ≡ Some entry → is_last last place ≡ true → entry_view copy ≡ doubled (entry_view entry) → Extended entries last place new
-        → log_view (new ++ copy ∷ []) ≡ doubled (entry_view entry) ∷ map doubled (before place)
+    copied : (place : ℕ) (new : List Entry) (entry copy : Entry) → slice_get entries place ≡ Some entry → is_last last place ≡ true → entry_view copy ≡ entry_view entry → Extended entries last place new
+        → log_view (new ++ copy ∷ []) ≡ entry_view entry ∷ before place
     copied place new entry copy at here view holds =
-        log-pushed new copy ∙ (λ i. view i ∷ (holds.view ∙ ap (λ b. extra b (map doubled (before place))) (behind_front last place here)) i)
+        log-pushed new copy ∙ (λ i. view i ∷ (holds.view ∙ ap (λ b. extra b (before place)) (behind_front last place here)) i)
 
-    pub added_addable : (place : ℕ) (new : List Entry) (entry copy added : Entry) (k : ℕ) → slice_get entries place ≡ Some entry → is_last last place ≡ true → entry_view copy ≡ doubled (entry_view entry)
+    pub added_addable : (place : ℕ) (new : List Entry) (entry copy added : Entry) (k : ℕ) → slice_get entries place ≡ Some entry → is_last last place ≡ true → entry_view copy ≡ entry_view entry
         → step_of added.what ≡ Numbers k → added.t ≡ entry.t → k ≡ statement_count t (log_view entries) + 1 → Extended entries last place new → IsAddable (log_view (new ++ copy ∷ [])) added
     added_addable place new entry copy added k at here view step same next holds =
         numbers_next (log_view (new ++ copy ∷ [])) added k step
-        (let counts = ap (λ u. statement_count u (log_view (new ++ copy ∷ []))) (same ∙ own) ∙ (ap (statement_count t) (copied place new entry copy at here view holds ∙ ap (map doubled) (sym (log-more entries place entry at)))
-        ∙ (count_doubled t (before (place + 1)) ∙ (is.count place (last_is last place here) ∙ ap (statement_count t) (log-all entries (length entries) (omega arith))))) in omega (arith, counts, next))
+        (let counts = ap (λ u. statement_count u (log_view (new ++ copy ∷ []))) (same ∙ own) ∙ (ap (statement_count t) (copied place new entry copy at here view holds ∙ sym (log-more entries place entry at))
+        ∙ (is.count place (last_is last place here) ∙ ap (statement_count t) (log-all entries (length entries) (omega arith)))) in omega (arith, counts, next))
       where
         own : entry.t ≡ t
         own = step-own entry.line entry.session entry.t entry.what (is.here place entry (last_is last place here) at)
 
-    pub extended_here : (place : ℕ) (new : List Entry) (entry copy added : Entry) → slice_get entries place ≡ Some entry → is_last last place ≡ true → entry_view copy ≡ doubled (entry_view entry)
-        → entry_view added ≡ m.Ran (suc (entry.line + entry.line)) entry.session command entry.t statement → Extended entries last place new → Extended entries last (place + 1) ((new ++ copy ∷ []) ++ added ∷ [])
+    pub extended_here : (place : ℕ) (new : List Entry) (entry copy added : Entry) → slice_get entries place ≡ Some entry → is_last last place ≡ true → entry_view copy ≡ entry_view entry
+        → entry_view added ≡ m.Ran (suc entry.line) entry.session command entry.t statement → Extended entries last place new → Extended entries last (place + 1) ((new ++ copy ∷ []) ++ added ∷ [])
     extended_here place new entry copy added at here view extra_view holds = record {
       count =
           let whole = length-append (new ++ copy ∷ []) (added ∷ []) in
@@ -294,17 +260,17 @@ module _ (t : ℕ) (command : Command) (statement : Statement) where
           let count = few_here place new here holds in let next : cond {A = ℕ} (is_behind last (place + 1)) 1 0 ≡ 1 = ap (λ b. cond b 1 0) (behind_next last place here) in omega arith;
       view =
           log-pushed (new ++ copy ∷ []) added ∙ (λ i. extra_view i ∷ copied place new entry copy at here view holds i)
-          ∙ (sym (added-here entry.line entry.session entry.t entry.what (map doubled (before place)) (is.here place entry (last_is last place here) at))
-          ∙ (ap (λ es. with_added t command statement (map doubled es)) (sym (log-more entries place entry at))
-          ∙ ap (λ b. extra b (map doubled (before (place + 1)))) (sym (behind_next last place here))));
+          ∙ (sym (added-here entry.line entry.session entry.t entry.what (before place) (is.here place entry (last_is last place here) at))
+          ∙ (ap (λ es. with_added t command statement es) (sym (log-more entries place entry at))
+          ∙ ap (λ b. extra b (before (place + 1))) (sym (behind_next last place here))));
     }
 
-    pub extended_all : (place : ℕ) (new : List Entry) → length entries ≤ place → Extended entries last place new → log_view new ≡ with_added t command statement (map doubled (log_view entries))
-    extended_all place new l holds = holds.view ∙ (ap (λ es. extra (is_behind last place) (map doubled es)) (log-all entries place l) ∙ go last refl)
+    pub extended_all : (place : ℕ) (new : List Entry) → length entries ≤ place → Extended entries last place new → log_view new ≡ with_added t command statement (log_view entries)
+    extended_all place new l holds = holds.view ∙ (ap (λ es. extra (is_behind last place) es) (log-all entries place l) ∙ go last refl)
       where
-        go : (found : Option ℕ) → last ≡ found → extra (is_behind found place) (map doubled (log_view entries)) ≡ with_added t command statement (map doubled (log_view entries))
+        go : (found : Option ℕ) → last ≡ found → extra (is_behind found place) (log_view entries) ≡ with_added t command statement (log_view entries)
         go None e =
             sym (added-none (log_view entries)
             (subst (λ es. AllByRecursion (λ (x : m.Entry). is_step_of t x ≡ false) es) (log-all entries (length entries) (omega arith)) (is.none e)))
         go (Some found) e =
-            ap (λ b. extra b (map doubled (log_view entries))) (less-true found place (let within = is.within found e in omega (arith, within, l)))
+            ap (λ b. extra b (log_view entries)) (less-true found place (let within = is.within found e in omega (arith, within, l)))

@@ -1,5 +1,5 @@
 -- A changed log keeps its sessions, and its statements fit.
-use Rattle.std.proofs.Common.{◌≡◌, ℕ, suc, ◌+◌, Bool, true, false, cond, List, [], ◌∷◌, ◌++◌, map, Some, None, refl, sym, ap, ◌∙◌}
+use Rattle.std.proofs.Common.{◌≡◌, ℕ, suc, ◌*◌, Bool, true, false, cond, List, [], ◌∷◌, ◌++◌, map, Some, None, refl, sym, ap, arith, ◌∙◌}
 use Rattle.std.specs.Prelude.{◌==◌, ◌&&◌}
 use Rattle.std.proofs.lemmas.Bool.{and_parts, eq-eqb, and_from, eqb-true}
 use Rattle.std.specs.List.{list_all}
@@ -12,7 +12,7 @@ use Rattle.gp_machine.specs.Entries.{End, Entry, Created, Began, Ran, Committed,
 use Rattle.gp_log.specs.Discipline.{transaction_in}
 use Rattle.gp_log.specs.LogFitting.{statements_fit}
 use Rattle.gp_log.specs.LogFacts.{tables_in}
-use Rattle.gp_whatif.specs.Changed.{doubled, dropped_statement, is_at, is_step_of, nothing_at, with_added, with_other}
+use Rattle.gp_whatif.specs.Changed.{dropped_command, dropped_of, dropped_statement, is_at, is_step_of, nothing_at, spread, with_added, with_other}
 use Rattle.gp_log.specs.Sessions.{KeepsSessions}
 
 -- ---- two logs with the same sessions and transactions
@@ -67,15 +67,44 @@ ended_same line number session t end old new same = record {
   keeps = λ k. (same.sessions session ∙ k.0, same.keeps k.1);
 }
 
--- ---- doubled lines, and another statement
+-- ---- other lines, and other statements
 
-pub doubled_same : (entries : List Entry) → SameSessions entries (map doubled entries)
-doubled_same [] = same_itself []
-doubled_same (Created line session table ∷ older) = created_same line (line + line) session table older (map doubled older) (doubled_same older)
-doubled_same (Began line session t level ∷ older) = began_same line (line + line) session t level older (map doubled older) (doubled_same older)
-doubled_same (Ran line session command t statement ∷ older) = ran_same line (line + line) session t command command statement statement older (map doubled older) (doubled_same older)
-doubled_same (Committed line session t ∷ older) = committed_same line (line + line) session t older (map doubled older) (doubled_same older)
-doubled_same (Ended line session end t ∷ older) = ended_same line (line + line) session t end older (map doubled older) (doubled_same older)
+pub spread_same : (times : ℕ) (entries : List Entry) → SameSessions entries (map (spread times) entries)
+spread_same times [] = same_itself []
+spread_same times (Created line session table ∷ older) = created_same line (line * times) session table older (map (spread times) older) (spread_same times older)
+spread_same times (Began line session t level ∷ older) = began_same line (line * times) session t level older (map (spread times) older) (spread_same times older)
+spread_same times (Ran line session command t statement ∷ older) =
+    ran_same line (line * times) session t command command statement statement older (map (spread times) older) (spread_same times older)
+spread_same times (Committed line session t ∷ older) = committed_same line (line * times) session t older (map (spread times) older) (spread_same times older)
+spread_same times (Ended line session end t ∷ older) = ended_same line (line * times) session t end older (map (spread times) older) (spread_same times older)
+
+-- lines once as great are the lines
+pub spread_once : (entries : List Entry) → map (spread 1) entries ≡ entries
+spread_once [] = refl
+spread_once (entry ∷ older) = (λ i. once entry i ∷ spread_once older i)
+  where
+    times_one : (n : ℕ) → n * 1 ≡ n
+    times_one n = omega arith
+
+    once : (entry : Entry) → spread 1 entry ≡ entry
+    once (Created line session table) = ap (λ n. Created n session table) (times_one line)
+    once (Began line session t level) = ap (λ n. Began n session t level) (times_one line)
+    once (Ran line session command t statement) = ap (λ n. Ran n session command t statement) (times_one line)
+    once (Committed line session t) = ap (λ n. Committed n session t) (times_one line)
+    once (Ended line session end t) = ap (λ n. Ended n session end t) (times_one line)
+
+pub all_dropped_same : (t : ℕ) (entries : List Entry) → SameSessions entries (map (dropped_of t) entries)
+all_dropped_same t [] = same_itself []
+all_dropped_same t (Created line session table ∷ older) = created_same line line session table older (map (dropped_of t) older) (all_dropped_same t older)
+all_dropped_same t (Began line session u level ∷ older) = began_same line line session u level older (map (dropped_of t) older) (all_dropped_same t older)
+all_dropped_same t (Ran line session own u now ∷ older) = by (u == t) (all_dropped_same t older)
+  where
+    by : (b : Bool) → SameSessions older (map (dropped_of t) older)
+        → SameSessions (Ran line session own u now ∷ older) (cond b (Ran line session (dropped_command own) u (dropped_statement now)) (Ran line session own u now) ∷ map (dropped_of t) older)
+    by true rest = ran_same line line session u own (dropped_command own) now (dropped_statement now) older (map (dropped_of t) older) rest
+    by false rest = ran_same line line session u own own now now older (map (dropped_of t) older) rest
+all_dropped_same t (Committed line session u ∷ older) = committed_same line line session u older (map (dropped_of t) older) (all_dropped_same t older)
+all_dropped_same t (Ended line session end u ∷ older) = ended_same line line session u end older (map (dropped_of t) older) (all_dropped_same t older)
 
 module _ (t k : ℕ) (command : Command → Command) (statement : Statement → Statement) where
   pub other_same : (entries : List Entry) → SameSessions entries (with_other t k command statement entries)
@@ -131,15 +160,31 @@ module _ (tables : List Table) where
   dropped_fits (delete table c) fits = nothing_fits table (and_parts (is_there tables table) (cond_fits (width_of tables table) c) fits).0
   dropped_fits (read select) fits = fits
 
-  pub doubled_fits : (entries : List Entry) → statements_fit tables entries ≡ true → statements_fit tables (map doubled entries) ≡ true
-  doubled_fits [] fits = refl
-  doubled_fits (Created line session table ∷ older) fits = doubled_fits older fits
-  doubled_fits (Began line session t level ∷ older) fits = doubled_fits older fits
-  doubled_fits (Ran line session command t statement ∷ older) fits =
+  pub spread_fits : (times : ℕ) (entries : List Entry) → statements_fit tables entries ≡ true → statements_fit tables (map (spread times) entries) ≡ true
+  spread_fits times [] fits = refl
+  spread_fits times (Created line session table ∷ older) fits = spread_fits times older fits
+  spread_fits times (Began line session t level ∷ older) fits = spread_fits times older fits
+  spread_fits times (Ran line session command t statement ∷ older) fits =
       let parts = and_parts (statement_fits tables statement) (statements_fit tables older) fits in
-      and_from (statement_fits tables statement) (statements_fit tables (map doubled older)) parts.0 (doubled_fits older parts.1)
-  doubled_fits (Committed line session t ∷ older) fits = doubled_fits older fits
-  doubled_fits (Ended line session end t ∷ older) fits = doubled_fits older fits
+      and_from (statement_fits tables statement) (statements_fit tables (map (spread times) older)) parts.0 (spread_fits times older parts.1)
+  spread_fits times (Committed line session t ∷ older) fits = spread_fits times older fits
+  spread_fits times (Ended line session end t ∷ older) fits = spread_fits times older fits
+
+  pub all_dropped_fits : (t : ℕ) (entries : List Entry) → statements_fit tables entries ≡ true → statements_fit tables (map (dropped_of t) entries) ≡ true
+  all_dropped_fits t [] fits = refl
+  all_dropped_fits t (Created line session table ∷ older) fits = all_dropped_fits t older fits
+  all_dropped_fits t (Began line session u level ∷ older) fits = all_dropped_fits t older fits
+  all_dropped_fits t (Ran line session own u now ∷ older) fits = by (u == t) (all_dropped_fits t older parts.1)
+    where
+      parts : (statement_fits tables now ≡ true) × (statements_fit tables older ≡ true)
+      parts = and_parts (statement_fits tables now) (statements_fit tables older) fits
+
+      by : (b : Bool) → statements_fit tables (map (dropped_of t) older) ≡ true
+          → statements_fit tables (cond b (Ran line session (dropped_command own) u (dropped_statement now)) (Ran line session own u now) ∷ map (dropped_of t) older) ≡ true
+      by true rest = and_from (statement_fits tables (dropped_statement now)) (statements_fit tables (map (dropped_of t) older)) (dropped_fits now parts.0) rest
+      by false rest = and_from (statement_fits tables now) (statements_fit tables (map (dropped_of t) older)) parts.0 rest
+  all_dropped_fits t (Committed line session u ∷ older) fits = all_dropped_fits t older fits
+  all_dropped_fits t (Ended line session end u ∷ older) fits = all_dropped_fits t older fits
 
   module _ (t k : ℕ) (command : Command → Command) (statement : Statement → Statement) (kept : (s : Statement) → statement_fits tables s ≡ true → statement_fits tables (statement s) ≡ true) where
     pub other_fits : (entries : List Entry) → statements_fit tables entries ≡ true → statements_fit tables (with_other t k command statement entries) ≡ true

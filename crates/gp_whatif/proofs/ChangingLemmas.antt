@@ -1,12 +1,12 @@
 -- A changed log, made from the oldest entry on.
-use Rattle.std.proofs.Common.{◌≡◌, ◌≢◌, ℕ, zero, suc, ◌+◌, ◌<◌, ◌≤◌, ◌^◌, Bool, true, false, cond, List, [], ◌∷◌, ◌++◌, get_or, length, map, reverse, take, drop, Some, None, refl, sym, ap, ◌∙◌, subst, arith}
+use Rattle.std.proofs.Common.{◌≡◌, ◌≢◌, ℕ, suc, ◌+◌, ◌<◌, ◌≤◌, Bool, true, false, cond, List, [], ◌∷◌, ◌++◌, filter, get_or, length, map, take, drop, Some, None, refl, sym, ap, ◌∙◌, subst, arith}
 use Rattle.std.specs.Prelude.{◌&&◌, ◌==◌, slice_get, nat_lt}
 use Rattle.std.specs.Str.{bytes_eq}
 use Rattle.std.proofs.lemmas.Bool.{and_parts, false≢true, ne_eqb, eqb-true}
 use Rattle.std.proofs.lemmas.Bool.Decides.{nat_tests}
-use Rattle.std.proofs.lemmas.List.{append-nil, get_or_append_left, get_or_at, length-append, map-append, reverse-append, take-append-drop, take_all, take_more}
+use Rattle.std.proofs.lemmas.List.{append-nil, get_or_append_left, get_or_at, length-append, take_all}
+use Rattle.std.proofs.lemmas.List.Elements.{filter-append}
 use Rattle.std.proofs.lemmas.List.Sums.{position_or_len_is}
-use Rattle.std.proofs.lemmas.Option.{get_or_from_slice_get, slice_get_within}
 use Rattle.std.proofs.lemmas.Slice.Eq.{bytes_eq-Decides}
 use Rattle.gp_base.specs.Catalogs.{place_of, table_names}
 use Rattle.gp_base.specs.CatalogForms.{HaveDifferentNames}
@@ -14,42 +14,30 @@ use Rattle.gp_base.specs.declared.catalog.TheConstants.{MAX_TABLES}
 use Rattle.gp_base.specs.declared.table.Table.{Table}
 use Rattle.gp_algebra.specs.Statements.{Statement}
 use Rattle.gp_algebra.specs.Views.{statement_view}
-use Rattle.gp_grammar.specs.Syntax.{Command}
+use Rattle.gp_grammar.specs.Syntax.{Command, LogChange}
 use Rattle.gp_syntax.specs.Views.{command_view}
 use Rattle.gp_machine.specs.Entries as m
 use Rattle.gp_machine.specs.Entries.{statement_count, line_of}
 use Rattle.gp_log.proofs.EntryLemmas.{log-pushed}
+use Rattle.gp_log.proofs.FindingLemmas.{log-cut, log-more, count-least}
+use Rattle.gp_log.specs.Finding.{is_numbered, is_own}
 use Rattle.gp_log.specs.Kinds.{CreatesNew, HasNextNumber, IsAddable, IsNumbered, created_by}
+use Rattle.gp_log.specs.declared.limit.TheConstants.{MAX_LINE}
 use Rattle.gp_log.specs.LogFacts.{tables_in}
 use Rattle.gp_log.specs.Logs.{entry_view, log_view, what_view}
 use Rattle.gp_log.specs.declared.entry.Entry.{Entry}
 use Rattle.gp_log.specs.declared.entry.What.{What}
 use Rattle.gp_log.specs.declared.entry.What.TheVariants as w
-use Rattle.gp_whatif.specs.Changed.{doubled, is_at, tables_before, with_other}
-use Rattle.gp_whatif.specs.ChangedForms.{CanDouble}
-use Rattle.gp_whatif.specs.Changing.{Goes, Makes, Numbers, SameStep, Step, edited, is_numbered, is_own, step_of}
-use Rattle.gp_whatif.proofs.ChangedLemmas.{doubled_same, other_same}
+use Rattle.gp_whatif.specs.Changed.{adds, dropped_command, dropped_of, dropped_statement, is_at, spread, tables_before, with_other}
+use Rattle.gp_whatif.specs.ChangedForms.{AreLines}
+use Rattle.gp_whatif.specs.Changing.{Goes, Makes, Numbers, SameStep, Step, edited, step_of}
+use Rattle.gp_whatif.proofs.ChangedLemmas.{SameSessions, other_same}
 use Rattle.gp_base.proofs.SmallLemmas.{eq_itself}
 
 -- ---- a log up to a place
 
-pub log-more : (entries : List Entry) (place : ℕ) (entry : Entry) → slice_get entries place ≡ Some entry → log_view (take (place + 1) entries) ≡ entry_view entry ∷ log_view (take place entries)
-log-more entries place entry is =
-    ap log_view (take_more entries place entry (slice_get_within entries place entry is)
-    ∙ ap (λ (e : Entry). take place entries ++ e ∷ []) (get_or_from_slice_get entries place entry entry is))
-    ∙ log-pushed (take place entries) entry
-
-log-append : (older newer : List Entry) → log_view (older ++ newer) ≡ log_view newer ++ log_view older
-log-append older newer = ap (map entry_view) (reverse-append older newer) ∙ map-append entry_view (reverse newer) (reverse older)
-
-pub log-cut : (entries : List Entry) (place : ℕ) (entry : Entry) → slice_get entries place ≡ Some entry
-    → log_view entries ≡ log_view (drop (place + 1) entries) ++ (entry_view entry ∷ log_view (take place entries))
-log-cut entries place entry is =
-    sym (ap log_view (take-append-drop (place + 1) entries))
-    ∙ (log-append (take (place + 1) entries) (drop (place + 1) entries) ∙ ap (λ (es : List m.Entry). log_view (drop (place + 1) entries) ++ es) (log-more entries place entry is))
-
--- the line of an entry can be doubled
-line-is : (line session t : ℕ) (what : What) → line_of (what_view line session t what) ≡ line
+-- the line of an entry is one of a script
+pub line-is : (line session t : ℕ) (what : What) → line_of (what_view line session t what) ≡ line
 line-is line session t (w.Create table) = refl
 line-is line session t (w.Begin level) = refl
 line-is line session t (w.Statement k command stmt) = refl
@@ -57,27 +45,19 @@ line-is line session t w.Commit = refl
 line-is line session t w.Lost = refl
 line-is line session t w.Rollback = refl
 
-doubles-behind : (newer older : List m.Entry) → CanDouble (newer ++ older) → CanDouble older
-doubles-behind [] older all = all
-doubles-behind (entry ∷ newer) older all = doubles-behind newer older all.1
+lines-behind : (newer older : List m.Entry) → AreLines (newer ++ older) → AreLines older
+lines-behind [] older all = all
+lines-behind (entry ∷ newer) older all = lines-behind newer older all.1
 
-pub line-at : (entries : List Entry) (place : ℕ) (entry : Entry) → CanDouble (log_view entries) → slice_get entries place ≡ Some entry → entry.line < 2 ^ 31
+pub line-at : (entries : List Entry) (place : ℕ) (entry : Entry) → AreLines (log_view entries) → slice_get entries place ≡ Some entry → entry.line ≤ MAX_LINE
 line-at entries place entry all is =
-    subst (λ n. n < 2 ^ 31) (line-is entry.line entry.session entry.t entry.what)
-    (doubles-behind (log_view (drop (place + 1) entries)) (entry_view entry ∷ log_view (take place entries)) (subst CanDouble (log-cut entries place entry is) all)).0
+    subst (λ n. n ≤ MAX_LINE) (line-is entry.line entry.session entry.t entry.what)
+    (lines-behind (log_view (drop (place + 1) entries)) (entry_view entry ∷ log_view (take place entries)) (subst AreLines (log-cut entries place entry is) all)).0
 
 pub log-all : (entries : List Entry) (place : ℕ) → length entries ≤ place → log_view (take place entries) ≡ log_view entries
 log-all entries place l = ap log_view (take_all place entries l)
 
 -- ---- counts
-
-pub count_doubled : (t : ℕ) (entries : List m.Entry) → statement_count t (map doubled entries) ≡ statement_count t entries
-count_doubled t [] = refl
-count_doubled t (m.Created line session table ∷ older) = count_doubled t older
-count_doubled t (m.Began line session u level ∷ older) = count_doubled t older
-count_doubled t (m.Ran line session command u statement ∷ older) = ap (λ n. cond (u == t) (suc n) n) (count_doubled t older)
-count_doubled t (m.Committed line session u ∷ older) = count_doubled t older
-count_doubled t (m.Ended line session end u ∷ older) = count_doubled t older
 
 module _ (t k : ℕ) (command : Command → Command) (statement : Statement → Statement) where
   abbrev others : List m.Entry → List m.Entry
@@ -117,54 +97,54 @@ module _ (t k : ℕ) (command : Command → Command) (statement : Statement → 
 
   -- one statement more
   other_ran : (line session v number : ℕ) (own : Command) (now : Statement) (older : List m.Entry) → number ≡ suc (statement_count v older)
-      → others (m.Ran line session own v now ∷ map doubled older) ≡ edited ((v == t) && (number == k)) command statement (m.Ran line session own v now) ∷ others (map doubled older)
+      → others (m.Ran line session own v now ∷ older) ≡ edited ((v == t) && (number == k)) command statement (m.Ran line session own v now) ∷ others older
   other_ran line session v number own now older numbered = go (v == t) refl
     where
       go : (b : Bool) → (v == t) ≡ b
-          → cond (b && (suc (statement_count t (map doubled older)) == k)) (m.Ran line session (command own) v (statement now) ∷ map doubled older) (m.Ran line session own v now ∷ others (map doubled older))
-          ≡ edited (b && (number == k)) command statement (m.Ran line session own v now) ∷ others (map doubled older)
+          → cond (b && (suc (statement_count t older) == k)) (m.Ran line session (command own) v (statement now) ∷ older) (m.Ran line session own v now ∷ others older)
+          ≡ edited (b && (number == k)) command statement (m.Ran line session own v now) ∷ others older
       go false e = refl
       go true e =
-          ap (λ n. cond (n == k) (m.Ran line session (command own) v (statement now) ∷ map doubled older) (m.Ran line session own v now ∷ others (map doubled older))) same
+          ap (λ n. cond (n == k) (m.Ran line session (command own) v (statement now) ∷ older) (m.Ran line session own v now ∷ others older)) same
           ∙ last (number == k) refl
         where
-          same : suc (statement_count t (map doubled older)) ≡ number
-          same = ap suc (count_doubled t older ∙ ap (λ u. statement_count u older) (sym (eqb-true v t e))) ∙ sym numbered
+          same : suc (statement_count t older) ≡ number
+          same = ap (λ u. suc (statement_count u older)) (sym (eqb-true v t e)) ∙ sym numbered
 
           last : (b : Bool) → (number == k) ≡ b
-              → cond b (m.Ran line session (command own) v (statement now) ∷ map doubled older) (m.Ran line session own v now ∷ others (map doubled older)) ≡ edited b command statement (m.Ran line session own v now) ∷ others (map doubled older)
-          last true f = ap (λ es. m.Ran line session (command own) v (statement now) ∷ es) (sym (other_none (map doubled older) (let is = eqb-true number k f in omega (arith, same, is))))
+              → cond b (m.Ran line session (command own) v (statement now) ∷ older) (m.Ran line session own v now ∷ others older) ≡ edited b command statement (m.Ran line session own v now) ∷ others older
+          last true f = ap (λ es. m.Ran line session (command own) v (statement now) ∷ es) (sym (other_none older (let is = eqb-true number k f in omega (arith, same, is))))
           last false f = refl
 
   -- one entry more
   other_what : (line session v : ℕ) (what : What) (older : List m.Entry) → IsNumbered older (record { line = line; session = session; t = v; what = what })
-      → others (doubled (what_view line session v what) ∷ map doubled older)
-      ≡ edited ((v == t) && is_numbered k what) command statement (doubled (what_view line session v what)) ∷ others (map doubled older)
-  other_what line session v (w.Create table) older number = ap (λ e. e ∷ others (map doubled older)) (sym (kept ((v == t) && false) _ refl))
+      → others (what_view line session v what ∷ older)
+      ≡ edited ((v == t) && is_numbered k what) command statement (what_view line session v what) ∷ others older
+  other_what line session v (w.Create table) older number = ap (λ e. e ∷ others older) (sym (kept ((v == t) && false) _ refl))
     where
-      kept : (b : Bool) (x : m.Entry) → x ≡ m.Created (line + line) session table → edited b command statement (m.Created (line + line) session table) ≡ m.Created (line + line) session table
+      kept : (b : Bool) (x : m.Entry) → x ≡ m.Created line session table → edited b command statement (m.Created line session table) ≡ m.Created line session table
       kept true x e = refl
       kept false x e = refl
-  other_what line session v (w.Begin level) older number = ap (λ e. e ∷ others (map doubled older)) (sym (kept ((v == t) && false)))
+  other_what line session v (w.Begin level) older number = ap (λ e. e ∷ others older) (sym (kept ((v == t) && false)))
     where
-      kept : (b : Bool) → edited b command statement (m.Began (line + line) session v level) ≡ m.Began (line + line) session v level
+      kept : (b : Bool) → edited b command statement (m.Began line session v level) ≡ m.Began line session v level
       kept true = refl
       kept false = refl
   other_what line session v (w.Statement number own stmt) older numbered =
-      other_ran (line + line) session v number (command_view own) (statement_view stmt) older numbered
-  other_what line session v w.Commit older number = ap (λ e. e ∷ others (map doubled older)) (sym (kept ((v == t) && false)))
+      other_ran line session v number (command_view own.value) (statement_view stmt.value) older numbered
+  other_what line session v w.Commit older number = ap (λ e. e ∷ others older) (sym (kept ((v == t) && false)))
     where
-      kept : (b : Bool) → edited b command statement (m.Committed (line + line) session v) ≡ m.Committed (line + line) session v
+      kept : (b : Bool) → edited b command statement (m.Committed line session v) ≡ m.Committed line session v
       kept true = refl
       kept false = refl
-  other_what line session v w.Lost older number = ap (λ e. e ∷ others (map doubled older)) (sym (kept ((v == t) && false)))
+  other_what line session v w.Lost older number = ap (λ e. e ∷ others older) (sym (kept ((v == t) && false)))
     where
-      kept : (b : Bool) → edited b command statement (m.Ended (line + line) session m.Lost v) ≡ m.Ended (line + line) session m.Lost v
+      kept : (b : Bool) → edited b command statement (m.Ended line session m.Lost v) ≡ m.Ended line session m.Lost v
       kept true = refl
       kept false = refl
-  other_what line session v w.Rollback older number = ap (λ e. e ∷ others (map doubled older)) (sym (kept ((v == t) && false)))
+  other_what line session v w.Rollback older number = ap (λ e. e ∷ others older) (sym (kept ((v == t) && false)))
     where
-      kept : (b : Bool) → edited b command statement (m.Ended (line + line) session m.RolledBack v) ≡ m.Ended (line + line) session m.RolledBack v
+      kept : (b : Bool) → edited b command statement (m.Ended line session m.RolledBack v) ≡ m.Ended line session m.RolledBack v
       kept true = refl
       kept false = refl
 
@@ -284,33 +264,71 @@ numbers_next older entry k step next = allows older entry.t entry.what (subst (A
 -- with statement k of transaction t by another
 pub record Others (t k : ℕ) (command : Command → Command) (statement : Statement → Statement) (entries : List Entry) (place : ℕ) (new : List Entry) : Type 0 where
   pub count : length new ≡ place
-  pub view : log_view new ≡ with_other t k command statement (map doubled (log_view (take place entries)))
+  pub view : log_view new ≡ with_other t k command statement (log_view (take place entries))
 
 module _ (t k : ℕ) (command : Command → Command) (statement : Statement → Statement) (entries : List Entry) where
-  pub others_none : Others t k command statement entries zero []
-  others_none = record { count = refl; view = refl }
-
   pub others_addable : (place : ℕ) (new : List Entry) (entry copy : Entry) → HaveDifferentNames (tables_in (log_view entries)) → length (tables_in (log_view entries)) ≤ MAX_TABLES → slice_get entries place ≡ Some entry
       → IsNumbered (log_view (take place entries)) entry → SameStep copy entry → Others t k command statement entries place new → IsAddable (log_view new) copy
   others_addable place new entry copy different few is number same holds =
       let before : List m.Entry = log_view (take place entries) in
       subst (λ es. IsAddable es copy) (sym holds.view)
-      (addable before (with_other t k command statement (map doubled before)) entry copy
-      ((other_same t k command statement (map doubled before)).tables ∙ (doubled_same before).tables)
-      (λ n step. count_other t k command statement entry.t (map doubled before) ∙ count_doubled entry.t before) same (creates_new entries place entry different few is, number))
+      (addable before (with_other t k command statement before) entry copy
+      (other_same t k command statement before).tables
+      (λ n step. count_other t k command statement entry.t before) same (creates_new entries place entry different few is, number))
 
   pub others_next : (place : ℕ) (new : List Entry) (entry copy : Entry) → slice_get entries place ≡ Some entry → IsNumbered (log_view (take place entries)) entry
-      → entry_view copy ≡ edited (is_own t k entry) command statement (doubled (entry_view entry)) → Others t k command statement entries place new → Others t k command statement entries (place + 1) (new ++ copy ∷ [])
+      → entry_view copy ≡ edited (is_own t k entry) command statement (entry_view entry) → Others t k command statement entries place new → Others t k command statement entries (place + 1) (new ++ copy ∷ [])
   others_next place new entry copy is number view holds = record {
     count = length-append new (copy ∷ []) ∙ (let count = holds.count in omega arith);
     view =
         log-pushed new copy ∙ (λ i. view i ∷ holds.view i)
-        ∙ sym (ap (λ es. with_other t k command statement (map doubled es)) (log-more entries place entry is)
+        ∙ sym (ap (λ es. with_other t k command statement es) (log-more entries place entry is)
         ∙ other_what t k command statement entry.line entry.session entry.t entry.what (log_view (take place entries)) number);
   }
 
-  pub others_all : (place : ℕ) (new : List Entry) → length entries ≤ place → Others t k command statement entries place new → log_view new ≡ with_other t k command statement (map doubled (log_view entries))
-  others_all place new l holds = holds.view ∙ ap (λ es. with_other t k command statement (map doubled es)) (log-all entries place l)
+-- ---- a log entry by entry
+
+-- an entry in the place of each, which asks the same
+pub record Mapped (each : m.Entry → m.Entry) (entries : List Entry) (place : ℕ) (new : List Entry) : Type 0 where
+  pub count : length new ≡ place
+  pub view : log_view new ≡ map each (log_view (take place entries))
+
+module _ (each : m.Entry → m.Entry) (same : (older : List m.Entry) → SameSessions older (map each older)) (counts : (t : ℕ) (older : List m.Entry) → statement_count t (map each older) ≡ statement_count t older)
+    (entries : List Entry) where
+  pub mapped_addable : (place : ℕ) (new : List Entry) (entry copy : Entry) → HaveDifferentNames (tables_in (log_view entries)) → length (tables_in (log_view entries)) ≤ MAX_TABLES → slice_get entries place ≡ Some entry
+      → IsNumbered (log_view (take place entries)) entry → SameStep copy entry → Mapped each entries place new → IsAddable (log_view new) copy
+  mapped_addable place new entry copy different few is number step holds =
+      let before : List m.Entry = log_view (take place entries) in
+      subst (λ es. IsAddable es copy) (sym holds.view)
+      (addable before (map each before) entry copy (same before).tables (λ n numbered. counts entry.t before) step (creates_new entries place entry different few is, number))
+
+  pub mapped_next : (place : ℕ) (new : List Entry) (entry copy : Entry) → slice_get entries place ≡ Some entry → entry_view copy ≡ each (entry_view entry) → Mapped each entries place new
+      → Mapped each entries (place + 1) (new ++ copy ∷ [])
+  mapped_next place new entry copy is view holds = record {
+    count = length-append new (copy ∷ []) ∙ (let count = holds.count in omega arith);
+    view = log-pushed new copy ∙ (λ i. view i ∷ holds.view i) ∙ sym (ap (map each) (log-more entries place entry is));
+  }
+
+pub count_spread : (times t : ℕ) (entries : List m.Entry) → statement_count t (map (spread times) entries) ≡ statement_count t entries
+count_spread times t [] = refl
+count_spread times t (m.Created line session table ∷ older) = count_spread times t older
+count_spread times t (m.Began line session u level ∷ older) = count_spread times t older
+count_spread times t (m.Ran line session command u statement ∷ older) = ap (λ n. cond (u == t) (suc n) n) (count_spread times t older)
+count_spread times t (m.Committed line session u ∷ older) = count_spread times t older
+count_spread times t (m.Ended line session end u ∷ older) = count_spread times t older
+
+pub count_dropped : (v t : ℕ) (entries : List m.Entry) → statement_count t (map (dropped_of v) entries) ≡ statement_count t entries
+count_dropped v t [] = refl
+count_dropped v t (m.Created line session table ∷ older) = count_dropped v t older
+count_dropped v t (m.Began line session u level ∷ older) = count_dropped v t older
+count_dropped v t (m.Ran line session own u now ∷ older) = by (u == v) ∙ ap (λ n. cond (u == t) (suc n) n) (count_dropped v t older)
+  where
+    by : (b : Bool) → statement_count t (cond b (m.Ran line session (dropped_command own) u (dropped_statement now)) (m.Ran line session own u now) ∷ map (dropped_of v) older)
+        ≡ cond (u == t) (suc (statement_count t (map (dropped_of v) older))) (statement_count t (map (dropped_of v) older))
+    by true = refl
+    by false = refl
+count_dropped v t (m.Committed line session u ∷ older) = count_dropped v t older
+count_dropped v t (m.Ended line session end u ∷ older) = count_dropped v t older
 
 -- ---- the place of a statement
 
@@ -340,15 +358,6 @@ pub fewer_next : (t k : ℕ) (entries : List Entry) (place : ℕ) (entry : Entry
     → statement_count t (log_view (take place entries)) < k → statement_count t (log_view (take (place + 1) entries)) < k
 fewer_next t k entries place entry is number other l =
     subst (λ es. statement_count t es < k) (sym (log-more entries place entry is)) (count-next t entry.line entry.session entry.t entry.what (log_view (take place entries)) k number other l)
-
-count-least : (t : ℕ) (newer older : List m.Entry) → statement_count t older ≤ statement_count t (newer ++ older)
-count-least t [] older = omega arith
-count-least t (m.Created line session table ∷ newer) older = count-least t newer older
-count-least t (m.Began line session u level ∷ newer) older = count-least t newer older
-count-least t (m.Ran line session command u statement ∷ newer) older =
-    omega (arith, count-least t newer older, (elim (u == t) as (λ b. statement_count t (newer ++ older) ≤ cond b (suc (statement_count t (newer ++ older))) (statement_count t (newer ++ older))) [ true ↦ omega arith | false ↦ omega arith ]))
-count-least t (m.Committed line session u ∷ newer) older = count-least t newer older
-count-least t (m.Ended line session end u ∷ newer) older = count-least t newer older
 
 -- the tables before a statement, behind newer entries
 before-behind : (t k : ℕ) (newer older : List m.Entry) → k ≤ statement_count t older → tables_before t k (newer ++ older) ≡ tables_before t k older
@@ -417,3 +426,9 @@ tables_next entries place entry is = ap tables_in (log-more entries place entry 
     go line session v w.Commit older = sym (append-nil (tables_in older))
     go line session v w.Lost older = sym (append-nil (tables_in older))
     go line session v w.Rollback older = sym (append-nil (tables_in older))
+
+-- ---- the lines that changes need
+
+-- the line of the first change, if it needs one, and those of the others
+pub lines-counted : (change : LogChange) (changes : List LogChange) → length (filter adds (change ∷ changes)) ≡ length (filter adds (change ∷ [])) + length (filter adds changes)
+lines-counted change changes = ap length (filter-append adds (change ∷ []) changes) ∙ length-append (filter adds (change ∷ [])) (filter adds changes)

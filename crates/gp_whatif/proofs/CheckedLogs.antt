@@ -1,6 +1,6 @@
 -- The statements of a log, and of a changed one, are what the check makes of their commands.
 use Rattle.std.proofs.Common.{◌≡◌, ℕ, suc, Bool, true, false, cond, List, [], ◌∷◌, map, Option, Some, None, refl, sym, ap, ◌∙◌, subst}
-use Rattle.std.specs.Prelude.{◌==◌, ◌&&◌, Result, Ok, Err}
+use Rattle.std.specs.Prelude.{◌==◌, Result, Ok, Err}
 use Rattle.std.specs.Option.{option_or}
 use Rattle.gp_base.specs.declared.refusal.Refusal.{Refusal}
 use Rattle.gp_base.specs.declared.table.Table.{Table}
@@ -19,10 +19,10 @@ use Rattle.gp_log.specs.Discipline.{IsLog}
 use Rattle.gp_log.specs.Parameters.{parameters}
 use Rattle.gp_log.proofs.CheckedEntries.{was_checked}
 use Rattle.gp_log.specs.LogFacts.{tables_in}
-use Rattle.gp_whatif.specs.Changed.{changed_log, doubled, dropped_command, dropped_statement, is_at, is_step_of, nothing_at, nothing_from, rewritten, steps_refusal, tables_at_end, tables_before, with_added, with_other}
+use Rattle.gp_whatif.specs.Changed.{changed, changed_log, dropped_command, dropped_of, dropped_statement, is_at, is_step_of, lines_for, nothing_at, nothing_from, rewritten, spread, steps_refusal, tables_at_end, tables_before, with_added, with_other}
 use Rattle.gp_whatif.specs.ChangedForms.{AreChecked}
-use Rattle.gp_whatif.proofs.ChangedLemmas.{added_same, doubled_same, other_same}
-use Rattle.gp_whatif.proofs.ChangingLemmas.{count_doubled}
+use Rattle.gp_whatif.proofs.ChangedLemmas.{added_same, all_dropped_same, other_same, spread_same}
+use Rattle.gp_whatif.proofs.ReplayableLemmas.{all_keep}
 
 -- ---- a statement that is dropped
 
@@ -72,24 +72,28 @@ front (Ran line session command t statement) old new same rest are = (ap (λ tab
 front (Committed line session t) old new same rest are = rest are
 front (Ended line session end t) old new same rest are = rest are
 
-doubled_checked : (entries : List Entry) → AreChecked entries → AreChecked (map doubled entries)
-doubled_checked [] are = tt
-doubled_checked (Created line session table ∷ older) are = doubled_checked older are
-doubled_checked (Began line session t level ∷ older) are = doubled_checked older are
-doubled_checked (Ran line session command t statement ∷ older) are = (ap (λ tables. checked tables command) (doubled_same older).tables ∙ are.0, doubled_checked older are.1)
-doubled_checked (Committed line session t ∷ older) are = doubled_checked older are
-doubled_checked (Ended line session end t ∷ older) are = doubled_checked older are
+spread_checked : (times : ℕ) (entries : List Entry) → AreChecked entries → AreChecked (map (spread times) entries)
+spread_checked times [] are = tt
+spread_checked times (Created line session table ∷ older) are = spread_checked times older are
+spread_checked times (Began line session t level ∷ older) are = spread_checked times older are
+spread_checked times (Ran line session command t statement ∷ older) are = (ap (λ tables. checked tables command) (spread_same times older).tables ∙ are.0, spread_checked times older are.1)
+spread_checked times (Committed line session t ∷ older) are = spread_checked times older are
+spread_checked times (Ended line session end t ∷ older) are = spread_checked times older are
+
+all_dropped_checked : (t : ℕ) (entries : List Entry) → AreChecked entries → AreChecked (map (dropped_of t) entries)
+all_dropped_checked t [] are = tt
+all_dropped_checked t (Created line session table ∷ older) are = all_dropped_checked t older are
+all_dropped_checked t (Began line session u level ∷ older) are = all_dropped_checked t older are
+all_dropped_checked t (Ran line session own u now ∷ older) are = by (u == t) (all_dropped_checked t older are.1)
+  where
+    by : (b : Bool) → AreChecked (map (dropped_of t) older)
+        → AreChecked (cond b (Ran line session (dropped_command own) u (dropped_statement now)) (Ran line session own u now) ∷ map (dropped_of t) older)
+    by true rest = (ap (λ tables. checked tables (dropped_command own)) (all_dropped_same t older).tables ∙ dropped_checked (tables_in older) own now are.0, rest)
+    by false rest = (ap (λ tables. checked tables own) (all_dropped_same t older).tables ∙ are.0, rest)
+all_dropped_checked t (Committed line session u ∷ older) are = all_dropped_checked t older are
+all_dropped_checked t (Ended line session end u ∷ older) are = all_dropped_checked t older are
 
 module _ (t k : ℕ) where
-  before_doubled : (entries : List Entry) → tables_before t k (map doubled entries) ≡ tables_before t k entries
-  before_doubled [] = refl
-  before_doubled (Created line session table ∷ older) = before_doubled older
-  before_doubled (Began line session u level ∷ older) = before_doubled older
-  before_doubled (Ran line session command u statement ∷ older) =
-      (λ i. cond ((u == t) && (suc (count_doubled t older i) == k)) ((doubled_same older).tables i) (before_doubled older i))
-  before_doubled (Committed line session u ∷ older) = before_doubled older
-  before_doubled (Ended line session end u ∷ older) = before_doubled older
-
   -- what is put in the place of statement k is what the check makes of its command there
   module _ (command : Command → Command) (statement : Statement → Statement) where
     other_checked : (entries : List Entry) → ((own : Command) (now : Statement) → IsSame (checked (tables_before t k entries) own) (Ok now) → IsSame (checked (tables_before t k entries) (command own)) (Ok (statement now)))
@@ -108,14 +112,6 @@ module _ (t k : ℕ) where
     other_checked (Ended line session end u ∷ older) put are = other_checked older put are
 
 module _ (t : ℕ) where
-  end_doubled : (entries : List Entry) → tables_at_end t (map doubled entries) ≡ tables_at_end t entries
-  end_doubled [] = refl
-  end_doubled (Created line session table ∷ older) = end_doubled older
-  end_doubled (Began line session u level ∷ older) = (λ i. cond (u == t) ((doubled_same older).tables i) (end_doubled older i))
-  end_doubled (Ran line session command u statement ∷ older) = (λ i. cond (u == t) ((doubled_same older).tables i) (end_doubled older i))
-  end_doubled (Committed line session u ∷ older) = end_doubled older
-  end_doubled (Ended line session end u ∷ older) = end_doubled older
-
   -- a step creates no table
   step_tables : (entry : Entry) (older : List Entry) → is_step_of t entry ≡ true → tables_in (entry ∷ older) ≡ tables_in older
   step_tables (Began line session u level) older is = refl
@@ -158,18 +154,20 @@ module _ (entries new : List Entry) (are : AreChecked entries) where
   put None (Err refusal) make e each = absurd cc
   put None (Ok given) make e each = subst AreChecked (same-ok (make given) new e) (each given refl)
 
-  twice : AreChecked (map doubled entries)
-  twice = doubled_checked entries are
-
-  pub change_checked : (change : LogChange) → AreSame (changed_log parameters entries change) (Ok new) → AreChecked new
+  change_checked : (change : LogChange) → AreSame (changed parameters entries change) (Ok new) → AreChecked new
   change_checked (y.drop t k) e =
-      put (option_or (transaction_refusal t entries) (statement_refusal t k entries)) (Ok (tt {0})) (λ nothing. with_other t k dropped_command dropped_statement (map doubled entries)) e
-      (λ nothing passes. other_checked t k dropped_command dropped_statement (map doubled entries) (λ own now is. dropped_checked (tables_before t k (map doubled entries)) own now is) twice)
+      put (option_or (transaction_refusal t entries) (statement_refusal t k entries)) (Ok (tt {0})) (λ nothing. with_other t k dropped_command dropped_statement entries) e
+      (λ nothing passes. other_checked t k dropped_command dropped_statement entries (λ own now is. dropped_checked (tables_before t k entries) own now is) are)
+  change_checked (y.drop_all t) e = put (transaction_refusal t entries) (Ok (tt {0})) (λ nothing. map (dropped_of t) entries) e (λ nothing passes. all_dropped_checked t entries are)
   change_checked (y.replace t k command) e =
       put (option_or (transaction_refusal t entries) (statement_refusal t k entries)) (checked (tables_before t k entries) command)
-      (λ statement. with_other t k (λ own. command) (λ own. statement) (map doubled entries)) e
-      (λ statement passes. other_checked t k (λ own. command) (λ own. statement) (map doubled entries)
-      (λ own now is. ap (λ tables. checked tables command) (before_doubled t k entries) ∙ passes) twice)
+      (λ statement. with_other t k (λ own. command) (λ own. statement) entries) e
+      (λ statement passes. other_checked t k (λ own. command) (λ own. statement) entries (λ own now is. passes) are)
   change_checked (y.add t command) e =
-      put (option_or (transaction_refusal t entries) (steps_refusal parameters entries t)) (checked (tables_at_end t entries) command) (λ statement. with_added t command statement (map doubled entries)) e
-      (λ statement passes. added_checked t command statement (map doubled entries) (ap (λ tables. checked tables command) (end_doubled t entries) ∙ passes) twice)
+      put (option_or (transaction_refusal t entries) (steps_refusal parameters entries t)) (checked (tables_at_end t entries) command) (λ statement. with_added t command statement entries) e
+      (λ statement passes. added_checked t command statement entries passes are)
+
+pub changes_checked : (entries new : List Entry) (changes : List LogChange) → AreChecked entries → changed_log parameters entries changes ≡ Ok new → AreChecked new
+changes_checked entries new changes are e =
+    all_keep parameters AreChecked (λ old made change holds is. change_checked old made holds change is) changes (map (spread (lines_for changes)) entries) new
+    (spread_checked (lines_for changes) entries are) e

@@ -1,5 +1,5 @@
 -- What the code tells of a statement, and of tables without row versions.
-use Rattle.std.proofs.Common.{◌≡◌, ◌≤◌, ℕ, zero, suc, true, List, [], ◌∷◌, ◌++◌, length, take, drop, refl, ◌∙◌, arith}
+use Rattle.std.proofs.Common.{◌≡◌, ◌≤◌, ℕ, true, List, ◌++◌, length, take, drop, refl, ◌∙◌, arith}
 use Rattle.std.proofs.lemmas.List.{take-append-le, take_all}
 use Rattle.gp_algebra.specs.Fitting.{statement_fits}
 use Rattle.gp_algebra.specs.Statements.{Statement, insert, insert_select, update, delete, read}
@@ -10,8 +10,6 @@ use Rattle.gp_algebra.specs.declared.statement.Stmt.TheVariants as variant
 use Rattle.gp_base.specs.declared.table.Table.{Table}
 use Rattle.gp_txn.proofs.FitLemmas.{statement-applicable}
 use Rattle.gp_txn.specs.Applying.{is_applicable}
-use Rattle.gp_txn.specs.Transactions.{table_at}
-use Rattle.gp_versions.specs.Spans.{Versions}
 use Rattle.gp_whatif.specs.Remade.{can_run}
 
 -- a statement that fits can run
@@ -29,13 +27,6 @@ applies count (variant.InsertSelect table select) other runs = runs
 applies count (variant.Update table sets c) other runs = runs
 applies count (variant.Delete table c) other runs = runs
 applies count (variant.Read select) other runs = absurd (other select refl)
-
--- a table without row versions has no spans
-pub spans_added : (versions : List Versions) (added : Versions) → added.spans ≡ [] → ((place : ℕ) → (table_at place versions).spans ≡ []) → (place : ℕ) → (table_at place (versions ++ added ∷ [])).spans ≡ []
-spans_added [] added empty none zero = empty
-spans_added [] added empty none (suc place) = refl
-spans_added (held ∷ versions) added empty none zero = none zero
-spans_added (held ∷ versions) added empty none (suc place) = spans_added versions added empty (λ place. none (suc place)) place
 
 -- what a slice of a vector has, written back
 pub written-back : {A : Type 0} (n : ℕ) (new old : List A) → n ≡ length new → take n (new ++ drop (length new) old) ≡ new

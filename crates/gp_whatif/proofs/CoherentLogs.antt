@@ -25,12 +25,12 @@ use Rattle.gp_log.specs.Discipline.{transaction_in}
 use Rattle.gp_log.specs.LogFacts.{tables_in}
 use Rattle.gp_log.specs.LogFitting.{statements_fit}
 use Rattle.gp_log.specs.Sessions.{KeepsSessions}
-use Rattle.gp_whatif.specs.Changed.{changed_log, doubled, dropped_command, dropped_statement, is_at, is_step_of, steps_refusal, tables_at_end, tables_before, with_added, with_other}
+use Rattle.gp_whatif.specs.Changed.{changed, changed_log, dropped_command, dropped_of, dropped_statement, is_at, is_step_of, lines_for, spread, steps_refusal, tables_at_end, tables_before, with_added, with_other}
 use Rattle.gp_whatif.specs.Replays.{IsCoherent, IsReplayable, WritesTables}
-use Rattle.gp_whatif.proofs.ChangedLemmas.{SameSessions, added_same, doubled_same, other_same}
+use Rattle.gp_whatif.proofs.ChangedLemmas.{SameSessions, added_same, all_dropped_same, other_same, spread_same}
 use Rattle.gp_whatif.proofs.FittingLogs.{fits_target}
 use Rattle.gp_whatif.proofs.FittingMore.{Extends, before_first, end_first}
-use Rattle.gp_whatif.proofs.ReplayableLemmas.{put, through}
+use Rattle.gp_whatif.proofs.ReplayableLemmas.{all_keep, put}
 
 -- ---- tables that are there
 
@@ -74,13 +74,26 @@ module _ (tables : ℕ) where
   dropped_target (delete table c) there = tt
   dropped_target (read select) there = tt
 
-  doubled_tables : (entries : List Entry) → WritesTables tables entries → WritesTables tables (map doubled entries)
-  doubled_tables [] writes = tt
-  doubled_tables (Created line session table ∷ older) writes = doubled_tables older writes
-  doubled_tables (Began line session t level ∷ older) writes = doubled_tables older writes
-  doubled_tables (Ran line session command t statement ∷ older) writes = (writes.0, doubled_tables older writes.1)
-  doubled_tables (Committed line session t ∷ older) writes = doubled_tables older writes
-  doubled_tables (Ended line session end t ∷ older) writes = doubled_tables older writes
+  spread_tables : (times : ℕ) (entries : List Entry) → WritesTables tables entries → WritesTables tables (map (spread times) entries)
+  spread_tables times [] writes = tt
+  spread_tables times (Created line session table ∷ older) writes = spread_tables times older writes
+  spread_tables times (Began line session t level ∷ older) writes = spread_tables times older writes
+  spread_tables times (Ran line session command t statement ∷ older) writes = (writes.0, spread_tables times older writes.1)
+  spread_tables times (Committed line session t ∷ older) writes = spread_tables times older writes
+  spread_tables times (Ended line session end t ∷ older) writes = spread_tables times older writes
+
+  all_dropped_tables : (t : ℕ) (entries : List Entry) → WritesTables tables entries → WritesTables tables (map (dropped_of t) entries)
+  all_dropped_tables t [] writes = tt
+  all_dropped_tables t (Created line session table ∷ older) writes = all_dropped_tables t older writes
+  all_dropped_tables t (Began line session u level ∷ older) writes = all_dropped_tables t older writes
+  all_dropped_tables t (Ran line session own u now ∷ older) writes = by (u == t) (all_dropped_tables t older writes.1)
+    where
+      by : (b : Bool) → WritesTables tables (map (dropped_of t) older)
+          → WritesTables tables (cond b (Ran line session (dropped_command own) u (dropped_statement now)) (Ran line session own u now) ∷ map (dropped_of t) older)
+      by true rest = (dropped_target now writes.0, rest)
+      by false rest = (writes.0, rest)
+  all_dropped_tables t (Committed line session u ∷ older) writes = all_dropped_tables t older writes
+  all_dropped_tables t (Ended line session end u ∷ older) writes = all_dropped_tables t older writes
 
   module _ (t k : ℕ) (command : Command → Command) (statement : Statement → Statement) (kept : (s : Statement) → HasTarget tables s → HasTarget tables (statement s)) where
     other_tables : (entries : List Entry) → WritesTables tables entries → WritesTables tables (with_other t k command statement entries)
@@ -123,45 +136,51 @@ coherent old new same writes is = record {
   tables = subst (λ (tables : List Table). WritesTables (length tables) new) (sym same.tables) writes;
 }
 
-module _ (parameters : Parameters) (checks : ChecksTargets parameters) (entries new : List Entry) (is : IsCoherent entries) where
-  abbrev doubles : List Entry
-  doubles = map doubled entries
+module _ (parameters : Parameters) (checks : ChecksTargets parameters) where
+  module _ (entries new : List Entry) (is : IsCoherent entries) where
+    abbrev tables : ℕ
+    tables = length (tables_in entries)
 
-  abbrev tables : ℕ
-  tables = length (tables_in entries)
+    spread_coherent : (times : ℕ) → IsCoherent (map (spread times) entries)
+    spread_coherent times = coherent entries (map (spread times) entries) (spread_same times entries) (spread_tables tables times entries is.tables) is
 
-  writes : WritesTables tables doubles
-  writes = doubled_tables tables entries is.tables
+    other_coherent : (t k : ℕ) (command : Command → Command) (statement : Statement → Statement) → ((s : Statement) → HasTarget tables s → HasTarget tables (statement s))
+        → IsCoherent (with_other t k command statement entries)
+    other_coherent t k command statement kept =
+        coherent entries (with_other t k command statement entries) (other_same t k command statement entries) (other_tables tables t k command statement kept entries is.tables) is
 
-  other_coherent : (t k : ℕ) (command : Command → Command) (statement : Statement → Statement) → ((s : Statement) → HasTarget tables s → HasTarget tables (statement s))
-      → IsCoherent (with_other t k command statement doubles)
-  other_coherent t k command statement kept =
-      coherent entries (with_other t k command statement doubles) (through entries doubles (with_other t k command statement doubles) (doubled_same entries) (other_same t k command statement doubles))
-      (other_tables tables t k command statement kept doubles writes) is
+    all_dropped_coherent : (t : ℕ) → IsCoherent (map (dropped_of t) entries)
+    all_dropped_coherent t = coherent entries (map (dropped_of t) entries) (all_dropped_same t entries) (all_dropped_tables tables t entries is.tables) is
 
-  added_coherent : (t : ℕ) (command : Command) (statement : Statement) → HasTarget tables statement → IsCoherent (with_added t command statement doubles)
-  added_coherent t command statement there =
-      coherent entries (with_added t command statement doubles) (through entries doubles (with_added t command statement doubles) (doubled_same entries) (added_same t command statement doubles))
-      (added_tables tables t command statement there doubles writes) is
+    added_coherent : (t : ℕ) (command : Command) (statement : Statement) → HasTarget tables statement → IsCoherent (with_added t command statement entries)
+    added_coherent t command statement there =
+        coherent entries (with_added t command statement entries) (added_same t command statement entries) (added_tables tables t command statement there entries is.tables) is
 
-  -- what the check passes on the first tables
-  checked_target : (front : List Table) (command : Command) (statement : Statement) → Extends front (tables_in entries) → parameters.checked front command ≡ Ok statement → HasTarget tables statement
-  checked_target front command statement extends checked =
-      more_target (length front) tables (longer front (tables_in entries) extends) statement (checks front command statement checked)
+    -- what the check passes on the first tables
+    checked_target : (front : List Table) (command : Command) (statement : Statement) → Extends front (tables_in entries) → parameters.checked front command ≡ Ok statement → HasTarget tables statement
+    checked_target front command statement extends checked =
+        more_target (length front) tables (longer front (tables_in entries) extends) statement (checks front command statement checked)
 
-  pub change_coherent : (change : LogChange) → changed_log parameters entries change ≡ Ok new → IsCoherent new
-  change_coherent (y.drop t k) e =
-      put parameters entries new IsCoherent (option_or (transaction_refusal t entries) (statement_refusal t k entries)) (Ok (tt {0}))
-      (λ nothing. with_other t k dropped_command dropped_statement (map doubled entries)) e
-      (λ nothing checked. other_coherent t k dropped_command dropped_statement (dropped_target tables))
-  change_coherent (y.replace t k command) e =
-      put parameters entries new IsCoherent (option_or (transaction_refusal t entries) (statement_refusal t k entries)) (parameters.checked (tables_before t k entries) command)
-      (λ statement. with_other t k (λ own. command) (λ own. statement) (map doubled entries)) e
-      (λ statement checked. other_coherent t k (λ own. command) (λ own. statement) (λ own there. checked_target (tables_before t k entries) command statement (before_first t k entries) checked))
-  change_coherent (y.add t command) e =
-      put parameters entries new IsCoherent (option_or (transaction_refusal t entries) (steps_refusal parameters entries t)) (parameters.checked (tables_at_end t entries) command)
-      (λ statement. with_added t command statement (map doubled entries)) e
-      (λ statement checked. added_coherent t command statement (checked_target (tables_at_end t entries) command statement (end_first t entries) checked))
+    change_coherent : (change : LogChange) → changed parameters entries change ≡ Ok new → IsCoherent new
+    change_coherent (y.drop t k) e =
+        put parameters entries new IsCoherent (option_or (transaction_refusal t entries) (statement_refusal t k entries)) (Ok (tt {0}))
+        (λ nothing. with_other t k dropped_command dropped_statement entries) e
+        (λ nothing checked. other_coherent t k dropped_command dropped_statement (dropped_target tables))
+    change_coherent (y.drop_all t) e =
+        put parameters entries new IsCoherent (transaction_refusal t entries) (Ok (tt {0})) (λ nothing. map (dropped_of t) entries) e (λ nothing checked. all_dropped_coherent t)
+    change_coherent (y.replace t k command) e =
+        put parameters entries new IsCoherent (option_or (transaction_refusal t entries) (statement_refusal t k entries)) (parameters.checked (tables_before t k entries) command)
+        (λ statement. with_other t k (λ own. command) (λ own. statement) entries) e
+        (λ statement checked. other_coherent t k (λ own. command) (λ own. statement) (λ own there. checked_target (tables_before t k entries) command statement (before_first t k entries) checked))
+    change_coherent (y.add t command) e =
+        put parameters entries new IsCoherent (option_or (transaction_refusal t entries) (steps_refusal parameters entries t)) (parameters.checked (tables_at_end t entries) command)
+        (λ statement. with_added t command statement entries) e
+        (λ statement checked. added_coherent t command statement (checked_target (tables_at_end t entries) command statement (end_first t entries) checked))
+
+  pub changes_coherent : (entries new : List Entry) (changes : List LogChange) → IsCoherent entries → changed_log parameters entries changes ≡ Ok new → IsCoherent new
+  changes_coherent entries new changes is e =
+      all_keep parameters IsCoherent (λ old made change holds made_is. change_coherent old made holds change made_is) changes (map (spread (lines_for changes)) entries) new
+      (spread_coherent entries new is (lines_for changes)) e
 
 -- ---- histories
 

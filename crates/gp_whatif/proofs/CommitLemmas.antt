@@ -73,11 +73,6 @@ stops_stay entries u n l stop e = by stop e
     by code.Full e = later _ e
     by code.NoMemory e = tt
 
--- ---- before the first version
-
-pub none_made : (entries : List Entry) (versions : List Versions) → length versions ≡ length (tables_in entries) → ((place : ℕ) → (table_at place versions).spans ≡ []) → IsMade entries zero versions
-none_made entries versions count none = record { count = count; unstopped = refl; spans = none }
-
 -- ---- one version more
 
 module _ (entries : List Entry) (ok : IsReplayable entries) (u : ℕ) (within : u < versions_in entries) (versions : List Versions) (made : IsMade entries u versions) where

@@ -1,12 +1,13 @@
 -- What the check passes on the tables before a line fits all tables of the log.
-use Rattle.std.proofs.Common.{◌≡◌, ℕ, Bool, true, false, cond, List, [], ◌∷◌, ◌++◌, refl, sym, ap, ◌∙◌, subst}
+use Rattle.std.proofs.Common.{◌≡◌, ℕ, Bool, true, false, cond, List, [], ◌∷◌, ◌++◌, map, refl, sym, ap, ◌∙◌, subst}
 use Rattle.std.proofs.lemmas.Bool.{and_parts}
 use Rattle.std.proofs.lemmas.List.{append-nil}
 use Rattle.std.proofs.lemmas.List.Folds.{list_all-append}
 use Rattle.std.specs.List.{list_all}
-use Rattle.std.specs.Prelude.{Ok}
+use Rattle.std.specs.Prelude.{IfOk, Result, Ok, Err}
+use Rattle.gp_base.specs.declared.refusal.Refusal.{Refusal}
 use Rattle.gp_base.specs.declared.table.Table.{Table}
-use Rattle.gp_grammar.specs.Laws.{has_statement}
+use Rattle.gp_grammar.specs.Laws.{has_statement, have_statements}
 use Rattle.gp_grammar.specs.Syntax as y
 use Rattle.gp_grammar.specs.Syntax.{Command, LogChange, is_statement}
 use Rattle.gp_algebra.specs.Fitting.{statement_fits}
@@ -15,13 +16,20 @@ use Rattle.gp_algebra.proofs.FittingMore.{statement_more}
 use Rattle.gp_check.specs.Checking.{checked}
 use Rattle.gp_check.specs.Faults.{first_refusal}
 use Rattle.gp_check.specs.Meaning.{meant_statement}
-use Rattle.gp_check.specs.Valid.{change_is_valid, is_valid, table_is_valid, tables_are_valid}
+use Rattle.gp_check.specs.Valid.{change_is_valid, changes_are_valid, is_valid, table_is_valid, tables_are_valid}
 use Rattle.gp_check.proofs.FittingLemmas.{accepted, fits}
 use Rattle.gp_machine.specs.Entries.{Began, Committed, Created, Ended, Entry, Ran}
 use Rattle.gp_log.specs.Parameters.{parameters}
 use Rattle.gp_log.specs.LogFacts.{tables_in}
-use Rattle.gp_whatif.specs.Changed.{is_at, is_step_of, tables_at_end, tables_before}
-use Rattle.gp_whatif.specs.ChangedForms.{ChecksFit}
+use Rattle.gp_log.specs.Logs.{Logged, log_view}
+use Rattle.gp_whatif.specs.Changed.{changed, changed_log, is_at, is_step_of, lines_for, spread, tables_at_end, tables_before}
+use Rattle.gp_whatif.specs.ChangedForms.{AllFit, CheckFits, ChecksFit}
+use Rattle.gp_whatif.specs.Changing.{Changes}
+use Rattle.gp_whatif.specs.Remaking as r
+use Rattle.gp_whatif.specs.Replays.{IsReplayable}
+use Rattle.gp_base.specs.declared.stop.Stop.{Stop}
+use Rattle.gp_whatif.proofs.ChangedLemmas.{spread_same}
+use Rattle.gp_whatif.proofs.ReplayableLemmas.{change_tables, changes_replayable}
 
 module _ (tables others : List Table) where
   first_valid : tables_are_valid (tables ++ others) ≡ true → tables_are_valid tables ≡ true
@@ -81,9 +89,32 @@ fits_all front whole command statement extends valid kind fine e =
     (subst (λ made. statement_fits front made ≡ true) is.1
     (fits front command (first_valid front extends.0 (subst (λ tables. tables_are_valid tables ≡ true) extends.1 valid)) kind fine is.0)))
 
-pub checks_fit : (entries : List Entry) (change : LogChange) → tables_are_valid (tables_in entries) ≡ true → has_statement change ≡ true → change_is_valid change ≡ true → ChecksFit parameters entries change
-checks_fit entries (y.drop t k) valid kind fine = tt
-checks_fit entries (y.replace t k command) valid kind fine = λ statement e.
+pub check_fits : (entries : List Entry) (change : LogChange) → tables_are_valid (tables_in entries) ≡ true → has_statement change ≡ true → change_is_valid change ≡ true → CheckFits parameters entries change
+check_fits entries (y.drop t k) valid kind fine = tt
+check_fits entries (y.drop_all t) valid kind fine = tt
+check_fits entries (y.replace t k command) valid kind fine = λ statement e.
     fits_all (tables_before t k entries) (tables_in entries) command statement (before_first t k entries) valid kind fine e
-checks_fit entries (y.add t command) valid kind fine = λ statement e.
+check_fits entries (y.add t command) valid kind fine = λ statement e.
     fits_all (tables_at_end t entries) (tables_in entries) command statement (end_first t entries) valid kind fine e
+
+all_fit : (changes : List LogChange) (entries : List Entry) → tables_are_valid (tables_in entries) ≡ true → have_statements changes ≡ true → changes_are_valid changes ≡ true → AllFit parameters (Ok entries) changes
+all_fit [] entries valid kind fine = tt
+all_fit (change ∷ changes) entries valid kind fine =
+    let kinds : (has_statement change ≡ true) × (have_statements changes ≡ true) = and_parts (has_statement change) (have_statements changes) kind in
+    let fines : (change_is_valid change ≡ true) × (changes_are_valid changes ≡ true) = and_parts (change_is_valid change) (changes_are_valid changes) fine in
+    (check_fits entries change valid kinds.0 fines.0, go (changed parameters entries change) refl (λ next fits. all_fit changes next fits kinds.1 fines.1))
+  where
+    go : (made : Result (List Entry) Refusal) → changed parameters entries change ≡ made → ((next : List Entry) → tables_are_valid (tables_in next) ≡ true → AllFit parameters (Ok next) changes) → AllFit parameters made changes
+    go (Err refusal) is others = tt
+    go (Ok next) is others = others next (subst (λ tables. tables_are_valid tables ≡ true) (sym (change_tables parameters entries next change is)) valid)
+
+pub checks_fit : (entries : List Entry) (changes : List LogChange) → tables_are_valid (tables_in entries) ≡ true → have_statements changes ≡ true → changes_are_valid changes ≡ true → ChecksFit parameters entries changes
+checks_fit entries changes valid kind fine =
+    all_fit changes (map (spread (lines_for changes)) entries)
+    (subst (λ tables. tables_are_valid tables ≡ true) (sym (spread_same (lines_for changes) entries).tables) valid) kind fine
+
+-- the changed log, if there is one, can be replayed
+pub keeps_replayable : (made : Result Logged Stop) (entries : List Entry) (changes : List LogChange) → Changes made (changed_log parameters entries changes) → have_statements changes ≡ true
+    → IsReplayable entries → tables_are_valid (tables_in entries) ≡ true → changes_are_valid changes ≡ true → IfOk made r.IsReplayable
+keeps_replayable (Ok new) entries changes is kind replayable valid fine = changes_replayable parameters entries (log_view new.entries) changes is replayable (checks_fit entries changes valid kind fine)
+keeps_replayable (Err stop) entries changes is kind replayable valid fine = tt

@@ -26,9 +26,9 @@ use Rattle.gp_log.proofs.KeptSessions.{maker_version}
 use Rattle.gp_log.specs.Parameters.{parameters}
 use Rattle.gp_log.specs.LogFacts.{tables_in}
 use Rattle.gp_log.specs.Sessions.{KeepsSessions}
-use Rattle.gp_whatif.specs.Changed.{changed_log, doubled, dropped_command, dropped_statement, is_at, with_other}
+use Rattle.gp_whatif.specs.Changed.{changed_log, dropped_command, dropped_statement, is_at, spread, with_other}
 use Rattle.gp_whatif.specs.Replays.{IsMade, stop_upto}
-use Rattle.gp_whatif.proofs.ReplayableLemmas.{change_tables, put}
+use Rattle.gp_whatif.proofs.ReplayableLemmas.{changes_tables, one_change, put}
 
 -- ---- two logs that differ in statements of one transaction alone
 
@@ -100,49 +100,69 @@ none_same t = record {
 }
 
 module _ (t : ℕ) where
-  doubled_entry : (entry : Entry) → SameEntry t entry (doubled entry)
-  doubled_entry (Created line session table) = record { begin = refl; statement = refl; commit = refl; transaction = refl; level = refl; own = λ other. refl }
-  doubled_entry (Began line session u level) = record { begin = refl; statement = refl; commit = refl; transaction = refl; level = refl; own = λ other. refl }
-  doubled_entry (Ran line session command u statement) = record { begin = refl; statement = refl; commit = refl; transaction = refl; level = refl; own = λ other. refl }
-  doubled_entry (Committed line session u) = record { begin = refl; statement = refl; commit = refl; transaction = refl; level = refl; own = λ other. refl }
-  doubled_entry (Ended line session end u) = record { begin = refl; statement = refl; commit = refl; transaction = refl; level = refl; own = λ other. refl }
+  abbrev Same : Entry → Entry → Type 0
+  Same old new = SameEntry t old new
 
-  doubled_log : (entries : List Entry) → SameLog t entries (map doubled entries)
-  doubled_log [] = none_same t
-  doubled_log (entry ∷ older) = front_same t entry (doubled entry) (doubled_entry entry) older (map doubled older) (doubled_log older)
+  itself : (entry : Entry) → Same entry entry
+  itself (Created line session table) = record { begin = refl; statement = refl; commit = refl; transaction = refl; level = refl; own = λ other. refl }
+  itself (Began line session u level) = record { begin = refl; statement = refl; commit = refl; transaction = refl; level = refl; own = λ other. refl }
+  itself (Ran line session command u statement) = record { begin = refl; statement = refl; commit = refl; transaction = refl; level = refl; own = λ other. refl }
+  itself (Committed line session u) = record { begin = refl; statement = refl; commit = refl; transaction = refl; level = refl; own = λ other. refl }
+  itself (Ended line session end u) = record { begin = refl; statement = refl; commit = refl; transaction = refl; level = refl; own = λ other. refl }
+
+  spread_entry : (times : ℕ) (entry : Entry) → Same entry (spread times entry)
+  spread_entry times (Created line session table) = record { begin = refl; statement = refl; commit = refl; transaction = refl; level = refl; own = λ other. refl }
+  spread_entry times (Began line session u level) = record { begin = refl; statement = refl; commit = refl; transaction = refl; level = refl; own = λ other. refl }
+  spread_entry times (Ran line session command u statement) = record { begin = refl; statement = refl; commit = refl; transaction = refl; level = refl; own = λ other. refl }
+  spread_entry times (Committed line session u) = record { begin = refl; statement = refl; commit = refl; transaction = refl; level = refl; own = λ other. refl }
+  spread_entry times (Ended line session end u) = record { begin = refl; statement = refl; commit = refl; transaction = refl; level = refl; own = λ other. refl }
+
+  spread_log : (times : ℕ) (entries : List Entry) → SameLog t entries (map (spread times) entries)
+  spread_log times [] = none_same t
+  spread_log times (entry ∷ older) = front_same t entry (spread times entry) (spread_entry times entry) older (map (spread times) older) (spread_log times older)
+
+  same_logs : (entries : List Entry) → SameLog t entries entries
+  same_logs [] = none_same t
+  same_logs (entry ∷ older) = front_same t entry entry (itself entry) older older (same_logs older)
 
   module _ (k : ℕ) (command : Command → Command) (statement : Statement → Statement) where
     abbrev others : List Entry → List Entry
-    others entries = with_other t k command statement (map doubled entries)
+    others entries = with_other t k command statement entries
 
     pub other_log : (entries : List Entry) → SameLog t entries (others entries)
     other_log [] = none_same t
-    other_log (Created line session table ∷ older) =
-        front_same t (Created line session table) (Created (line + line) session table) (doubled_entry (Created line session table)) older (others older) (other_log older)
-    other_log (Began line session u level ∷ older) =
-        front_same t (Began line session u level) (Began (line + line) session u level) (doubled_entry (Began line session u level)) older (others older) (other_log older)
-    other_log (Committed line session u ∷ older) =
-        front_same t (Committed line session u) (Committed (line + line) session u) (doubled_entry (Committed line session u)) older (others older) (other_log older)
-    other_log (Ended line session end u ∷ older) =
-        front_same t (Ended line session end u) (Ended (line + line) session end u) (doubled_entry (Ended line session end u)) older (others older) (other_log older)
-    other_log (Ran line session own u now ∷ older) = by (is_at t k u (map doubled older)) refl (other_log older)
+    other_log (Created line session table ∷ older) = front_same t (Created line session table) (Created line session table) (itself (Created line session table)) older (others older) (other_log older)
+    other_log (Began line session u level ∷ older) = front_same t (Began line session u level) (Began line session u level) (itself (Began line session u level)) older (others older) (other_log older)
+    other_log (Committed line session u ∷ older) = front_same t (Committed line session u) (Committed line session u) (itself (Committed line session u)) older (others older) (other_log older)
+    other_log (Ended line session end u ∷ older) = front_same t (Ended line session end u) (Ended line session end u) (itself (Ended line session end u)) older (others older) (other_log older)
+    other_log (Ran line session own u now ∷ older) = by (is_at t k u older) refl (other_log older)
       where
-        by : (b : Bool) → is_at t k u (map doubled older) ≡ b → SameLog t older (others older)
+        by : (b : Bool) → is_at t k u older ≡ b → SameLog t older (others older)
             → SameLog t (Ran line session own u now ∷ older)
-            (cond b (Ran (line + line) session (command own) u (statement now) ∷ map doubled older) (Ran (line + line) session own u now ∷ others older))
+            (cond b (Ran line session (command own) u (statement now) ∷ older) (Ran line session own u now ∷ others older))
         by true is rest =
-            front_same t (Ran line session own u now) (Ran (line + line) session (command own) u (statement now))
+            front_same t (Ran line session own u now) (Ran line session (command own) u (statement now))
             (record {
               begin = refl;
               statement = refl;
               commit = refl;
               transaction = refl;
               level = refl;
-              own = λ other. absurd (false≢true (sym other ∙ (and_parts (u == t) (suc (statement_count t (map doubled older)) == k) is).0));
+              own = λ other. absurd (false≢true (sym other ∙ (and_parts (u == t) (suc (statement_count t older) == k) is).0));
             })
-            older (map doubled older) (doubled_log older)
-        by false is rest =
-            front_same t (Ran line session own u now) (Ran (line + line) session own u now) (doubled_entry (Ran line session own u now)) older (others older) rest
+            older older (same_logs older)
+        by false is rest = front_same t (Ran line session own u now) (Ran line session own u now) (itself (Ran line session own u now)) older (others older) rest
+
+  both_logs : (a b c : List Entry) → SameLog t a b → SameLog t b c → SameLog t a c
+  both_logs a b c one two = record {
+    versions = two.versions ∙ one.versions;
+    count = λ u. two.count u ∙ one.count u;
+    begins = λ u. two.begins u ∙ one.begins u;
+    levels = λ u. two.levels u ∙ one.levels u;
+    version = λ u k. two.version u k ∙ one.version u k;
+    committer = λ v. two.committer v ∙ one.committer v;
+    statement = λ u k other. two.statement u k other ∙ one.statement u k other;
+  }
 
 -- ---- they make the same versions, before the one of that transaction
 
@@ -215,15 +235,19 @@ module _ (log other : Log) (tables : ℕ) where
 
 -- ---- a statement that is dropped
 
-module _ (entries new : List Entry) (keeps : KeepsSessions entries) (t k version : ℕ) (made : version_of t entries ≡ Some version) (change : changed_log parameters entries (y.drop t k) ≡ Ok new) where
+module _ (entries new : List Entry) (keeps : KeepsSessions entries) (t k version : ℕ) (made : version_of t entries ≡ Some version) (change : changed_log parameters entries (y.drop t k ∷ []) ≡ Ok new) where
+  abbrev once : List Entry
+  once = map (spread 1) entries
+
   same_log : SameLog t entries new
   same_log =
-      put parameters entries new (SameLog t entries) (option_or (transaction_refusal t entries) (statement_refusal t k entries)) (Ok (tt {0}))
-      (λ nothing. with_other t k dropped_command dropped_statement (map doubled entries)) change
-      (λ nothing checked. other_log t k dropped_command dropped_statement entries)
+      both_logs t entries once new (spread_log t 1 entries)
+      (put parameters once new (SameLog t once) (option_or (transaction_refusal t once) (statement_refusal t k once)) (Ok (tt {0}))
+      (λ nothing. with_other t k dropped_command dropped_statement once) (one_change parameters once new (y.drop t k) change)
+      (λ nothing checked. other_log t k dropped_command dropped_statement once))
 
   same_tables : tables_in new ≡ tables_in entries
-  same_tables = change_tables parameters entries new (y.drop t k) change
+  same_tables = changes_tables parameters entries new (y.drop t k ∷ []) change
 
   below : version ≤ versions_in entries
   below = let i = version_is t version entries made in omega (arith, i.is, i.within)

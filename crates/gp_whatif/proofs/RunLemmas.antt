@@ -1,12 +1,12 @@
 -- A transaction that runs again sees what it has read, and has written what the history machine says.
-use Rattle.std.proofs.Common.{◌≡◌, ℕ, zero, suc, ◌+◌, ◌<◌, ◌≤◌, Bool, true, false, cond, List, length, Option, Some, None, refl, sym, ap, ◌∙◌, subst, arith, ⊎_elim, inl}
+use Rattle.std.proofs.Common.{◌≡◌, ℕ, zero, suc, ◌+◌, ◌<◌, ◌≤◌, Bool, true, false, cond, List, length, Option, Some, None, refl, sym, ap, ◌∙◌, subst, arith, ⊎_elim}
 use Rattle.std.specs.Prelude.{◌==◌}
 use Rattle.std.specs.Option.{option_or}
 use Rattle.gp_base.specs.Annotated.{Database, unannotated}
 use Rattle.gp_base.specs.declared.row_id.TheConstants.{MAX_NODES}
 use Rattle.gp_base.specs.Identities.{Identity}
 use Rattle.gp_algebra.specs.Effects.{Written, step, wrote, is_over_rows, is_over_nodes}
-use Rattle.gp_algebra.specs.Statements.{Select, Statement, read}
+use Rattle.gp_algebra.specs.Statements.{Statement, read}
 use Rattle.gp_base.specs.declared.limit.TheConstants.{MAX_TABLE_ROWS}
 use Rattle.gp_versions.specs.Commits.{AreBelow}
 use Rattle.gp_versions.specs.Spans.{Versions, rows_at}
@@ -17,7 +17,7 @@ use Rattle.gp_txn.specs.Bases.{base_after, base_of, refreshed}
 use Rattle.gp_txn.proofs.UnwrittenLemmas.{unwritten-base, unwritten-is, unwritten-view}
 use Rattle.gp_txn.specs.Overlay as txn
 use Rattle.gp_txn.specs.Overlay.{rows_below, view_rows}
-use Rattle.gp_txn.specs.Transactions.{AreOthers, AreThere, HoldsOthers, IsUnwritten, Writes, base_at, database_below, has_written, overlay_at, table_at, view_at, writes_at}
+use Rattle.gp_txn.specs.Transactions.{AreOthers, AreThere, HoldsOthers, IsUnwritten, Writes, database_below, has_written, overlay_at, table_at, view_at, writes_at}
 use Rattle.gp_txn.specs.declared.overlay.TableWrites.{TableWrites}
 use Rattle.gp_machine.proofs.ActiveLemmas.{IsOver}
 use Rattle.gp_machine.proofs.BaseLemmas.{base_more}
@@ -84,23 +84,6 @@ module _ (k version : ℕ) (versions : List Versions) where
   wrote_ran statement old new count w =
       let a = w.applied in
       record { t = a.t; last = let l = a.last in omega arith; view = a.view; base = a.base; below = a.below; there = a.there; few_rows = w.few_rows; few_nodes = w.few_nodes }
-
-  -- a SELECT changes nothing
-  pub read_ran : (select : Select) (writes : Writes) → writes.last < k → Ran k version (read select) versions writes writes
-  read_ran select writes l = record {
-    t = refl;
-    last = omega arith;
-    view = λ place. refl;
-    base = λ place id other. kept (base_at writes.tables versions place id);
-    below = λ place. inl refl;
-    there = λ there. there;
-    few_rows = refl;
-    few_nodes = refl;
-  }
-    where
-      kept : (base : Option ℕ) → base ≡ base_after version false base
-      kept None = refl
-      kept (Some v) = refl
 
 -- ---- the transaction that made the next version
 

@@ -1,12 +1,12 @@
 -- Machinery: the parts of a changed log, as the code makes them from the oldest entry on.
-use Rattle.std.specs.Prelude.{◌≡◌, ℕ, ◌+◌, ◌<◌, ◌==◌, ◌&&◌, Bool, true, false, List, slice_get, take, unwrap_or, Option, Some, None, Result, Ok, Err}
+use Rattle.std.specs.Prelude.{◌≡◌, ℕ, ◌+◌, ◌<◌, ◌==◌, Bool, true, false, List, slice_get, take, unwrap_or, Option, Some, None, Result, Ok, Err}
 use Rattle.std.specs.List.{AllByRecursion}
 use Rattle.gp_base.specs.declared.refusal.Refusal.{Refusal}
+use Rattle.gp_base.specs.declared.stop.Stop.{Stop}
 use Rattle.gp_base.specs.declared.table.Table.{Table}
+use Rattle.gp_check.specs.Views.{Checks}
 use Rattle.gp_grammar.specs.Syntax.{Command}
 use Rattle.gp_algebra.specs.Statements.{Statement}
-use Rattle.gp_algebra.specs.Views.{statement_view}
-use Rattle.gp_algebra.specs.declared.statement.Stmt.{Stmt}
 use Rattle.gp_machine.specs.Entries as m
 use Rattle.gp_machine.specs.Entries.{statement_count}
 use Rattle.gp_log.specs.LogFacts.{tables_in}
@@ -15,14 +15,10 @@ use Rattle.gp_log.specs.declared.entry.Entry.{Entry}
 use Rattle.gp_log.specs.declared.entry.What.{What}
 use Rattle.gp_log.specs.declared.entry.What.TheVariants as what
 use Rattle.gp_whatif.specs.Changed.{is_step_of, tables_at_end}
-use Rattle.gp_whatif.specs.declared.error.ChangeStop.{ChangeStop}
-use Rattle.gp_whatif.specs.declared.error.ChangeStop.TheVariants.{NoMemory, Refused}
 
 -- the changed log, or the first refusal; running out of memory says nothing
-abbrev pub Changes : Result Logged ChangeStop → Result (List m.Entry) Refusal → Type 0
-Changes (Ok new) expected = expected ≡ Ok (log_view new.entries)
-Changes (Err (Refused refusal)) expected = expected ≡ Err refusal
-Changes (Err NoMemory) expected = Unit {0}
+abbrev pub Changes : Result Logged Stop → Result (List m.Entry) Refusal → Type 0
+Changes result expected = Checks (λ (new : Logged). log_view new.entries) result expected
 
 -- nothing, or the refusal
 abbrev pub IsRefused : {A : Type 0} → Result A Refusal → Option Refusal → Type 0
@@ -30,14 +26,6 @@ IsRefused (Ok found) expected = expected ≡ None
 IsRefused (Err refusal) expected = expected ≡ Some refusal
 
 -- ---- entries
-
--- statement k of transaction t
-abbrev pub is_numbered : ℕ → What → Bool
-is_numbered k (what.Statement number command stmt) = number == k
-is_numbered k _ = false
-
-abbrev pub is_own : ℕ → ℕ → Entry → Bool
-is_own t k entry = (entry.t == t) && is_numbered k entry.what
 
 -- another command and statement in the place of its own
 abbrev pub edited : Bool → (Command → Command) → (Statement → Statement) → m.Entry → m.Entry
@@ -59,13 +47,6 @@ step_of _ = Goes
 pub record SameStep (new old : Entry) : Type 0 where
   pub t : new.t ≡ old.t
   pub step : step_of new.what ≡ step_of old.what
-
--- ---- the check of the statement
-
-abbrev pub IsChecked : Result Stmt ChangeStop → Result Statement Refusal → Type 0
-IsChecked (Ok stmt) expected = expected ≡ Ok (statement_view stmt)
-IsChecked (Err (Refused refusal)) expected = expected ≡ Err refusal
-IsChecked (Err NoMemory) expected = Unit {0}
 
 -- ---- where a statement is added
 

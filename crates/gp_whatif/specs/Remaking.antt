@@ -1,5 +1,5 @@
 -- Machinery: what contracts say of a log, in the values that the code has.
-use Rattle.std.specs.Prelude.{ℕ, ◌+◌, ◌^◌, ◌<◌, ◌≤◌, suc, List, length, map, Result}
+use Rattle.std.specs.Prelude.{ℕ, ◌+◌, ◌^◌, ◌<◌, ◌≤◌, suc, List, length, Result}
 use Rattle.gp_base.specs.declared.catalog.TheConstants.{MAX_TABLES}
 use Rattle.gp_base.specs.declared.refusal.Refusal.{Refusal}
 use Rattle.gp_grammar.specs.Syntax.{LogChange}
@@ -15,18 +15,18 @@ use Rattle.gp_whatif.specs.Remade as m
 use Rattle.gp_whatif.specs.Replays as r
 use Rattle.gp_whatif.specs.declared.error.ReplayStop.{ReplayStop}
 
--- ---- a change
+-- ---- changes
 
--- twice each line is a number of 32 bits, and so is the next one
-abbrev pub CanDouble : Logged → Type 0
-CanDouble log = f.CanDouble (entries log)
+-- its lines are those of a script
+abbrev pub AreLines : Logged → Type 0
+AreLines log = f.AreLines (entries log)
 
--- the entries, with their line numbers doubled
-abbrev pub doubled : Logged → List Entry
-doubled log = map c.doubled (entries log)
-
+-- with one change, each line as it was
 abbrev pub changed : Logged → LogChange → Result (List Entry) Refusal
-changed log change = c.changed_log parameters (entries log) change
+changed log change = c.changed parameters (entries log) change
+
+abbrev pub changed_log : Logged → List LogChange → Result (List Entry) Refusal
+changed_log log changes = c.changed_log parameters (entries log) changes
 
 -- ---- a replay
 

@@ -1,8 +1,8 @@
-//! The errors of a change and of a replay.
+//! The error of a replay.
 
 ghost use Rattle.std.specs.Prelude.{◌≡◌};
 
-use gp_base::{NoMemory, Refusal, RowId};
+use gp_base::{NoMemory, RowId};
 
 /// Why the commits of a log are not made again.
 #[derive(Drop)]
@@ -45,34 +45,5 @@ impl From<NoMemory> for ReplayStop {
 
     fn from(_error: NoMemory) -> ReplayStop {
         ReplayStop::NoMemory
-    }
-}
-
-/// Why a log is not changed.
-#[derive(Drop)]
-pub enum ChangeStop {
-    /// The change is refused.
-    Refused(Refusal),
-    /// Memory ran out.
-    NoMemory,
-}
-
-impl From<NoMemory> for ChangeStop {
-    ghost use Rattle.gp_whatif.specs.declared.error.ChangeStop.TheVariants as stop;
-
-    ghost from_gives = { λ _ e. e ≡ stop.NoMemory };
-
-    fn from(_error: NoMemory) -> ChangeStop {
-        ChangeStop::NoMemory
-    }
-}
-
-impl From<Refusal> for ChangeStop {
-    ghost use Rattle.gp_whatif.specs.declared.error.ChangeStop.TheVariants as stop;
-
-    ghost from_gives = { λ refusal e. e ≡ stop.Refused refusal };
-
-    fn from(refusal: Refusal) -> ChangeStop {
-        ChangeStop::Refused(refusal)
     }
 }

@@ -1,33 +1,31 @@
-//! What if: the log with a statement of one of its transactions changed, and the commits of a log made again.
+//! What if: the log with statements of its transactions changed, and the commits of a log made again.
 //!
-//! In reading order: [`change`] gives the log with a statement dropped, replaced or added, or refuses the change.
+//! In reading order: [`change`] gives the log with statements dropped, replaced and added, or refuses the changes.
 //! [`replay`] makes the commits of a log again, from nothing: each transaction that made a version runs its
 //! statements over the versions made so far, each on the version that it reads, and commits. It gives the row versions, or a
 //! [`ReplayStop`]: the first commit that would have been lost, or would have passed a limit. [`replay_from`] goes on behind the
-//! first versions, where a change is of a later commit. [`copy_command`], [`copy_stmt`]
-//! and [`doubled`] are the parts of a changed log. In `specs/`, `Changed` says what a changed log is, and `Replays` what a replay
+//! first versions, where a change is of a later commit. [`copied`] and [`spread`] are the entries of a
+//! changed log. In `specs/`, `Changed` says what a changed log is, and `Replays` what a replay
 //! answers. The laws say that a log of checked lines keeps its sessions, that a changed one can be replayed and has rising
 //! lines, and that the log of a history is replayed as it was.
 //!
 //! ```text
 //! let without = LogChange::Drop { t: 7, k: 2 }; // the second statement of transaction 7
-//! let changed = change(alloc, &log, &without)?;
+//! let changed = change(alloc, &log, &[without])?;
 //! let versions = replay(alloc, &changed)?; // one table of versions for each table of the log
 //! ```
 #![tactic(auto)]
 
 mod changing;
-mod copying;
-mod doubling;
+mod entries;
 mod error;
 mod laws;
 mod replaying;
 mod versions;
 
 pub use changing::change;
-pub use copying::{copy_command, copy_term};
-pub use doubling::{copy_stmt, doubled};
-pub use error::{ChangeStop, ReplayStop};
+pub use entries::{copied, spread};
+pub use error::ReplayStop;
 pub use laws::{
     changed_lines_rise, changed_logs_are_checked, changed_logs_are_coherent,
     changed_logs_are_replayable, changes_keep_earlier_versions,

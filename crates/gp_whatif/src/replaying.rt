@@ -4,9 +4,9 @@ ghost use Rattle.std.specs.Prelude.{◌≡◌, ◌<◌, ◌≤◌, ◌+◌, ◌^
 ghost use Rattle.gp_base.specs.declared.catalog.TheConstants.{MAX_TABLES};
 ghost use Rattle.gp_algebra.specs.Views.{statement_view};
 ghost use Rattle.gp_txn.specs.Transactions.{HoldsOthers, table_at};
-ghost use Rattle.gp_machine.specs.Entries.{begin_version, transactions_in};
+ghost use Rattle.gp_machine.specs.Entries.{begin_version};
 ghost use Rattle.gp_whatif.specs.Remade.{Ran, StopsAt, can_run};
-ghost use Rattle.gp_log.specs.Contents.{commits, entries};
+ghost use Rattle.gp_log.specs.Contents.{commits};
 ghost use Rattle.gp_whatif.specs.Remaking as r;
 
 use crate::error::ReplayStop;
@@ -74,18 +74,6 @@ fn run_next(
     }
 }
 
-/// The version that a transaction began at.
-fn begin(log: &Log, t: u32) -> u32
-    requires first { 1 ≤ t }
-    requires known { t ≤ transactions_in (entries log.now) }
-    ensures { result ≡ begin_version t (entries log.now) }
-{
-    match log.begin_version(t) {
-        Some(version) => version,
-        None => unreachable!(),
-    }
-}
-
 /// Runs the transaction again that made the version after these, this many.
 fn run_again(
     alloc: Global,
@@ -101,7 +89,7 @@ fn run_again(
 {
     let t = log.maker(before + 1);
     // The log tells which version each statement reads, so the kind of the transaction is not asked for.
-    let mut active = Active::begin(alloc, t, begin(log, t), false);
+    let mut active = Active::begin(alloc, t, log.begin_version(t), false);
     for ran in 0..log.statement_count(t) {
         run_next(&mut active, log, before, ran, versions)?;
     }

@@ -12,6 +12,6 @@ add_created-requires c =
 
 pub loop-before-preserved : goal.loop-before-preserved
 loop-before-preserved c =
-    c.in_ok-add_created.ensures
+    c.in_ok-add_created.ensures.ok
     ∙ (ap (λ (tables : List Table). tables ++ created_by c.entry.result.now.what) c.loop-before.invariant
     ∙ sym (tables_next c.args.log.now.entries c.loop-before.before c.entry.result.now c.entry.ensures.entry))

@@ -1,10 +1,7 @@
 use Rattle.std.proofs.Common.{◌+◌, subst, sym}
 use Rattle.gp_whatif.specs.Changed.{dropped_command, dropped_statement}
-use Rattle.gp_whatif.proofs.ChangingLemmas.{Others, line-at, others_addable, others_next}
+use Rattle.gp_whatif.proofs.ChangingLemmas.{Others, others_addable, others_next}
 use Rattle.gp_whatif.proofs.changing.with_dropped.Goals as goal
-
-pub copy_dropped-requires : goal.copy_dropped-requires
-copy_dropped-requires c = line-at c.args.log.now.entries c.loop-place.place c.entry.result.now c.requires.lines c.entry.ensures.entry
 
 pub append-requires-clause-new : goal.append-requires-clause-new
 append-requires-clause-new c =

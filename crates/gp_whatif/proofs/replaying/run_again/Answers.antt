@@ -5,20 +5,7 @@ use Rattle.gp_machine.specs.Entries.{begin_version, committer_of}
 use Rattle.gp_log.specs.Logs.{log_view}
 use Rattle.gp_whatif.specs.Remade.{HasRun}
 use Rattle.gp_whatif.proofs.RunLemmas.{started}
-use Rattle.gp_log.proofs.KeptSessions.{orderly}
 use Rattle.gp_whatif.proofs.replaying.run_again.Goals as goal
-
-pub begin-requires-clause-first : goal.begin-requires-clause-first
-begin-requires-clause-first c =
-    let next : c.args.before + 1 ≡ suc c.args.before = omega arith in
-    let made = c.maker-t.ensures ∙ ap (λ n. committer_of n (log_view c.args.log.now.entries)) next in
-    omega (arith, made, ((orderly (log_view c.args.log.now.entries) c.requires.next.replayable.sessions).makers c.args.before c.requires.next.within).0)
-
-pub begin-requires-clause-known : goal.begin-requires-clause-known
-begin-requires-clause-known c =
-    let next : c.args.before + 1 ≡ suc c.args.before = omega arith in
-    let made = c.maker-t.ensures ∙ ap (λ n. committer_of n (log_view c.args.log.now.entries)) next in
-    omega (arith, made, ((orderly (log_view c.args.log.now.entries) c.requires.next.replayable.sessions).makers c.args.before c.requires.next.within).1)
 
 pub loop-ran-init : goal.loop-ran-init
 loop-ran-init c =
@@ -26,7 +13,7 @@ loop-ran-init c =
     let next : c.args.before + 1 ≡ suc c.args.before = omega arith in
     let made = c.maker-t.ensures ∙ ap (λ n. committer_of n entries) next in
     let new = c.begin-active.ensures in
-    let version = c.begin.ensures ∙ ap (λ t. begin_version t entries) made in (
+    let version = c.begin_version.ensures ∙ ap (λ t. begin_version t entries) made in (
       refl,
       started entries c.requires.next.replayable c.args.before c.requires.next.within c.args.versions.now c.requires.next.made c.begin-active.result (new.t ∙ made) new.last
           (λ place. subst (λ v. IsUnwritten v (writes_at place c.begin-active.result.tables)) version (new.tables place)),
