@@ -42,25 +42,25 @@ module _ (columns : ℕ → ℕ) (log : Log) (t : ℕ) where
   one_within k tables None = tt
   one_within k tables (Some statement) = go (target statement)
     where
-      go : (own : Option ℕ) → AreWithin k (steps_of columns t k tables statement own)
+      go : (written : Option ℕ) → AreWithin k (steps_of columns t k tables statement written)
       go None = tt
-      go (Some own) = (omega arith, tt)
+      go (Some written) = (omega arith, tt)
 
   one_after : (k : ℕ) (tables : ℕ → Query) (o : Option Statement) → AreAfter k (step_of columns t (suc k) tables o)
   one_after k tables None = tt
   one_after k tables (Some statement) = go (target statement)
     where
-      go : (own : Option ℕ) → AreAfter k (steps_of columns t (suc k) tables statement own)
+      go : (written : Option ℕ) → AreAfter k (steps_of columns t (suc k) tables statement written)
       go None = tt
-      go (Some own) = (omega arith, tt)
+      go (Some written) = (omega arith, tt)
 
   one_rises : (k : ℕ) (tables : ℕ → Query) (o : Option Statement) → AreRising (step_of columns t k tables o)
   one_rises k tables None = tt
   one_rises k tables (Some statement) = go (target statement)
     where
-      go : (own : Option ℕ) → AreRising (steps_of columns t k tables statement own)
+      go : (written : Option ℕ) → AreRising (steps_of columns t k tables statement written)
       go None = tt
-      go (Some own) = (tt, tt)
+      go (Some written) = (tt, tt)
 
   composed_within : (k : ℕ) → AreWithin k (composed columns log t k)
   composed_within zero = tt
@@ -85,14 +85,14 @@ module _ (columns : ℕ → ℕ) (log : Log) (t : ℕ) where
       one None e before = stands_front j table (composed columns log t k) [] (before e)
       one (Some statement) e before = two (target statement) e
         where
-          two : (own : Option ℕ) → cond (is_target own table) (Some (suc k)) (last_write log t k table) ≡ Some j → Stands j table (composed columns log t k ++ steps_of columns t (suc k) (current_before log t k) statement own)
+          two : (written : Option ℕ) → cond (is_target written table) (Some (suc k)) (last_write log t k table) ≡ Some j → Stands j table (composed columns log t k ++ steps_of columns t (suc k) (current_before log t k) statement written)
           two None e = stands_front j table (composed columns log t k) [] (before e)
-          two (Some own) e =
-              elim (table == own) as (λ b. (table == own) ≡ b → cond b (Some (suc k)) (last_write log t k table) ≡ Some j → Stands j table (composed columns log t k ++ (record { j = suc k; table = own; query = rewritten columns t (suc k) statement (current_before log t k) } ∷ []))) [
+          two (Some written) e =
+              elim (table == written) as (λ b. (table == written) ≡ b → cond b (Some (suc k)) (last_write log t k table) ≡ Some j → Stands j table (composed columns log t k ++ (record { j = suc k; table = written; query = rewritten columns t (suc k) statement (current_before log t k) } ∷ []))) [
                 | true ↦ λ same e. let last : suc k ≡ j = same_Some (suc k) j e in
-                    stands_behind k j table (composed columns log t k) (record { j = suc k; table = own; query = rewritten columns t (suc k) statement (current_before log t k) } ∷ []) (composed_within k) (omega arith)
-                    (here (record { j = suc k; table = own; query = rewritten columns t (suc k) statement (current_before log t k) }) [] last (sym (eqb-true table own same)))
-                | false ↦ λ same e. stands_front j table (composed columns log t k) (record { j = suc k; table = own; query = rewritten columns t (suc k) statement (current_before log t k) } ∷ []) (before e)
+                    stands_behind k j table (composed columns log t k) (record { j = suc k; table = written; query = rewritten columns t (suc k) statement (current_before log t k) } ∷ []) (composed_within k) (omega arith)
+                    (here (record { j = suc k; table = written; query = rewritten columns t (suc k) statement (current_before log t k) }) [] last (sym (eqb-true table written same)))
+                | false ↦ λ same e. stands_front j table (composed columns log t k) (record { j = suc k; table = written; query = rewritten columns t (suc k) statement (current_before log t k) } ∷ []) (before e)
               ] refl e
 
   -- and among the steps of more statements
@@ -180,9 +180,9 @@ module _ (columns : ℕ → ℕ) (log : Log) (t : ℕ) where
   one_reads k None = refl
   one_reads k (Some statement) = go (target statement)
     where
-      go : (own : Option ℕ) → steps_read (numbers_with [] (composed columns log t k)) (steps_of columns t (suc k) (current_before log t k) statement own) ≡ true
+      go : (written : Option ℕ) → steps_read (numbers_with [] (composed columns log t k)) (steps_of columns t (suc k) (current_before log t k) statement written) ≡ true
       go None = refl
-      go (Some own) =
+      go (Some written) =
           and_from (reads_only (numbers_with [] (composed columns log t k)) (rewritten columns t (suc k) statement (current_before log t k))) true
           (rewritten_reads (numbers_with [] (composed columns log t k)) (current_before log t k) (before_reads k) columns t (suc k) statement) refl
 
@@ -212,9 +212,9 @@ module _ (catalogue : List Table) (log : Log) (t : ℕ) (some_transaction : 0 < 
       one None e = tt
       one (Some statement) e = two (target statement) refl
         where
-          two : (own : Option ℕ) → target statement ≡ own → AreSteps (width_of catalogue) of_step (steps_of (width_of catalogue) t (suc k) (current_before log t k) statement own)
+          two : (written : Option ℕ) → target statement ≡ written → AreSteps (width_of catalogue) of_step (steps_of (width_of catalogue) t (suc k) (current_before log t k) statement written)
           two None is = tt
-          two (Some own) is = (rewritten_step catalogue of_step (current_before log t k) tables t (suc k) own statement (fits k statement e) is, tt)
+          two (Some written) is = (rewritten_step catalogue of_step (current_before log t k) tables t (suc k) written statement (fits k statement e) is, tt)
 
   composed_sound : (k : ℕ) → list_all (λ (step : QueryStep). is_sound step.query) (composed (width_of catalogue) log t k) ≡ true
   composed_sound zero = refl
@@ -224,9 +224,9 @@ module _ (catalogue : List Table) (log : Log) (t : ℕ) (some_transaction : 0 < 
       one None e = refl
       one (Some statement) e = two (target statement)
         where
-          two : (own : Option ℕ) → list_all (λ (step : QueryStep). is_sound step.query) (steps_of (width_of catalogue) t (suc k) (current_before log t k) statement own) ≡ true
+          two : (written : Option ℕ) → list_all (λ (step : QueryStep). is_sound step.query) (steps_of (width_of catalogue) t (suc k) (current_before log t k) statement written) ≡ true
           two None = refl
-          two (Some own) =
+          two (Some written) =
               and_from (is_sound (rewritten (width_of catalogue) t (suc k) statement (current_before log t k))) true
               (rewritten_sound (current_before log t k) (before_sound (width_of catalogue) log t k) t (suc k) some_transaction (omega arith) catalogue statement (fits k statement e)) refl
 
@@ -280,39 +280,39 @@ module _ (catalogue : List Table) (log : Log) (t : ℕ) (some_transaction : 0 < 
       steps : List QueryStep
       steps = composed (width_of catalogue) log t (suc k)
 
-      stands : (statement : Statement) (own : ℕ) → log.statement t (suc k) ≡ Some statement → target statement ≡ Some own → Stands (suc k) own steps
-      stands statement own e is = stands_within (width_of catalogue) log t (suc k) k own (omega arith) (writes_is log t k own statement e is)
+      stands : (statement : Statement) (written : ℕ) → log.statement t (suc k) ≡ Some statement → target statement ≡ Some written → Stands (suc k) written steps
+      stands statement written e is = stands_within (width_of catalogue) log t (suc k) k written (omega arith) (writes_is log t k written statement e is)
 
-      before : (own : ℕ) → IsTable (width_of catalogue) (step_table steps) own (current_before log t k own)
-      before own = subst (λ n. IsTable (width_of catalogue) (step_table (composed (width_of catalogue) log t n)) own (current_before log t k own)) (plus_suc k 0 ∙ ap suc (plus_zero k)) (before_table (width_of catalogue) log t k 1 own)
+      before : (written : ℕ) → IsTable (width_of catalogue) (step_table steps) written (current_before log t k written)
+      before written = subst (λ n. IsTable (width_of catalogue) (step_table (composed (width_of catalogue) log t n)) written (current_before log t k written)) (plus_suc k 0 ∙ ap suc (plus_zero k)) (before_table (width_of catalogue) log t k 1 written)
 
-      more_reads : (own : ℕ) → reads_only (numbers_with [] steps) (current_before log t k own) ≡ true
-      more_reads own = before_has (width_of catalogue) log t (λ query. reads_only (numbers_with [] steps) query ≡ true) own k (λ v. refl) (λ old new query is. and_from (reads_only (numbers_with [] steps) query) true is refl)
-          (λ j within e. stands_among (suc j) own [] steps (stands_within (width_of catalogue) log t (suc k) j own (omega arith) e))
+      more_reads : (written : ℕ) → reads_only (numbers_with [] steps) (current_before log t k written) ≡ true
+      more_reads written = before_has (width_of catalogue) log t (λ query. reads_only (numbers_with [] steps) query ≡ true) written k (λ v. refl) (λ old new query is. and_from (reads_only (numbers_with [] steps) query) true is refl)
+          (λ j within e. stands_among (suc j) written [] steps (stands_within (width_of catalogue) log t (suc k) j written (omega arith) e))
 
       reads : (statement : Statement) → log.statement t (suc k) ≡ Some statement → reads_only (numbers_with [] steps) (looking (suc k) (current_before log t k) statement) ≡ true
-      reads (s.insert own rows) e = stands_among (suc k) own [] steps (stands (s.insert own rows) own e refl)
-      reads (s.insert_select own select) e = stands_among (suc k) own [] steps (stands (s.insert_select own select) own e refl)
-      reads (s.update own sets c) e = more_reads own
-      reads (s.delete own c) e = more_reads own
+      reads (s.insert written rows) e = stands_among (suc k) written [] steps (stands (s.insert written rows) written e refl)
+      reads (s.insert_select written select) e = stands_among (suc k) written [] steps (stands (s.insert_select written select) written e refl)
+      reads (s.update written sets c) e = more_reads written
+      reads (s.delete written c) e = more_reads written
       reads (s.read select) e = refl
 
-      simple_chosen : (own : ℕ) (c : Cond) → cond_is_simple c ≡ true → is_sound (q.select (current_before log t k own) c) ≡ true
-      simple_chosen own c simple = and_from (is_sound (current_before log t k own)) (cond_is_simple c) (before_sound (width_of catalogue) log t k own) simple
+      simple_chosen : (written : ℕ) (c : Cond) → cond_is_simple c ≡ true → is_sound (q.select (current_before log t k written) c) ≡ true
+      simple_chosen written c simple = and_from (is_sound (current_before log t k written)) (cond_is_simple c) (before_sound (width_of catalogue) log t k written) simple
 
       sound : (statement : Statement) → statement_fits catalogue statement ≡ true → is_sound (looking (suc k) (current_before log t k) statement) ≡ true
-      sound (s.insert own rows) fit = refl
-      sound (s.insert_select own select) fit = refl
-      sound (s.update own sets c) fit = simple_chosen own c (update_is_simple catalogue own sets c fit)
-      sound (s.delete own c) fit = simple_chosen own c (delete_is_simple catalogue own c fit)
+      sound (s.insert written rows) fit = refl
+      sound (s.insert_select written select) fit = refl
+      sound (s.update written sets c) fit = simple_chosen written c (update_is_simple catalogue written sets c fit)
+      sound (s.delete written c) fit = simple_chosen written c (delete_is_simple catalogue written c fit)
       sound (s.read select) fit = refl
 
       contents : (statement : Statement) → log.statement t (suc k) ≡ Some statement → target statement ≡ Some table
           → IsTable (width_of catalogue) (step_table steps) table (looking (suc k) (current_before log t k) statement)
-      contents (s.insert own rows) e is = stands_table (suc k) table steps (stands (s.insert own rows) table e is)
-      contents (s.insert_select own select) e is = stands_table (suc k) table steps (stands (s.insert_select own select) table e is)
-      contents (s.update own sets c) e is = subst (λ place. IsTable (width_of catalogue) (step_table steps) place (current_before log t k own)) (same_Some own table is) (before own)
-      contents (s.delete own c) e is = subst (λ place. IsTable (width_of catalogue) (step_table steps) place (current_before log t k own)) (same_Some own table is) (before own)
+      contents (s.insert written rows) e is = stands_table (suc k) table steps (stands (s.insert written rows) table e is)
+      contents (s.insert_select written select) e is = stands_table (suc k) table steps (stands (s.insert_select written select) table e is)
+      contents (s.update written sets c) e is = subst (λ place. IsTable (width_of catalogue) (step_table steps) place (current_before log t k written)) (same_Some written table is) (before written)
+      contents (s.delete written c) e is = subst (λ place. IsTable (width_of catalogue) (step_table steps) place (current_before log t k written)) (same_Some written table is) (before written)
       contents (s.read select) e is = absurd (none-some table is)
 
 pub as_of_is_built : (catalogue : List Table) (version : ℕ) (select : Select) → select_fits catalogue select ≡ true → IsWellBuilt (width_of catalogue) (program_as_of version select)

@@ -1,38 +1,18 @@
 -- The entry at a place of a log, and what the log says of the entries up to it.
-use Rattle.std.proofs.Common.{◌≡◌, ℕ, suc, ◌+◌, ◌<◌, ◌≤◌, Bool, true, false, cond, List, [], ◌∷◌, ◌++◌, map, reverse, take, drop, refl, sym, ap, ◌∙◌, arith}
+use Rattle.std.proofs.Common.{◌≡◌, ℕ, suc, ◌+◌, Bool, true, false, cond, List, [], ◌∷◌, ◌++◌, take, drop, refl, sym, ap, ◌∙◌, arith}
 use Rattle.std.specs.Prelude.{◌&&◌, ◌==◌, Option, Some, None, slice_get}
-use Rattle.std.proofs.lemmas.List.{map-append, reverse-append, take-append-drop, take_more}
-use Rattle.std.proofs.lemmas.Option.{get_or_from_slice_get, slice_get_within}
 use Rattle.gp_base.specs.declared.table.Table.{Table}
 use Rattle.gp_algebra.specs.Statements.{Statement}
 use Rattle.gp_algebra.specs.Fitting.{statement_fits}
 use Rattle.gp_machine.specs.Entries as m
 use Rattle.gp_machine.specs.Entries.{statement_at, statement_count}
-use Rattle.gp_log.proofs.EntryLemmas.{log-pushed}
+use Rattle.gp_log.proofs.FindingLemmas.{found-behind, log-cut}
 use Rattle.gp_log.specs.LogFitting.{statements_fit}
 use Rattle.gp_log.specs.Logs.{entry_view, log_view}
 use Rattle.gp_log.specs.declared.entry.Entry.{Entry}
 use Rattle.gp_compose.specs.Composition.{own_fits, own_statement, ran_more}
 use Rattle.gp_base.proofs.SmallLemmas.{eq_itself}
 use Rattle.std.proofs.lemmas.Bool.{and_parts}
-
--- the log up to a place, with the entry there
-pub log-more : (entries : List Entry) (place : ℕ) (entry : Entry) → slice_get entries place ≡ Some entry
-    → log_view (take (place + 1) entries) ≡ entry_view entry ∷ log_view (take place entries)
-log-more entries place entry is =
-    ap log_view (take_more entries place entry (slice_get_within entries place entry is)
-    ∙ ap (λ (e : Entry). take place entries ++ e ∷ []) (get_or_from_slice_get entries place entry entry is))
-    ∙ log-pushed (take place entries) entry
-
-log-append : (older newer : List Entry) → log_view (older ++ newer) ≡ log_view newer ++ log_view older
-log-append older newer = ap (map entry_view) (reverse-append older newer) ∙ map-append entry_view (reverse newer) (reverse older)
-
--- the whole log, cut behind an entry
-log-cut : (entries : List Entry) (place : ℕ) (entry : Entry) → slice_get entries place ≡ Some entry
-    → log_view entries ≡ log_view (drop (place + 1) entries) ++ (entry_view entry ∷ log_view (take place entries))
-log-cut entries place entry is =
-    sym (ap log_view (take-append-drop (place + 1) entries))
-    ∙ (log-append (take (place + 1) entries) (drop (place + 1) entries) ∙ ap (λ (es : List m.Entry). log_view (drop (place + 1) entries) ++ es) (log-more entries place entry is))
 
 -- ---- statements
 
@@ -47,39 +27,7 @@ count-more t (m.Ran line session command u statement) older = own_by (u == t) st
 count-more t (m.Committed line session u) older = refl
 count-more t (m.Ended line session end u) older = refl
 
-cond-least : (b : Bool) (n : ℕ) → n ≤ cond b (suc n) n
-cond-least true n = omega arith
-cond-least false n = omega arith
-
-count-least : (t : ℕ) (newer older : List m.Entry) → statement_count t older ≤ statement_count t (newer ++ older)
-count-least t [] older = omega arith
-count-least t (m.Created line session table ∷ newer) older = count-least t newer older
-count-least t (m.Began line session u level ∷ newer) older = count-least t newer older
-count-least t (m.Ran line session command u statement ∷ newer) older =
-    omega (arith, count-least t newer older, cond-least (u == t) (statement_count t (newer ++ older)))
-count-least t (m.Committed line session u ∷ newer) older = count-least t newer older
-count-least t (m.Ended line session end u ∷ newer) older = count-least t newer older
-
-not_equal : (a b : ℕ) → b < a → (a == b) ≡ false
-not_equal a b less = grind arith
-
-passed : (own same : Bool) (here : Statement) (found : Option Statement) (wanted : Option Statement) → same ≡ false → found ≡ wanted → cond (own && same) (Some here) found ≡ wanted
-passed true true here found wanted is e = absurd (cc)
-passed true false here found wanted is e = e
-passed false same here found wanted is e = e
-
--- a statement is found behind newer entries
-found-behind : (t k : ℕ) (newer older : List m.Entry) → k ≤ statement_count t older → statement_at t k (newer ++ older) ≡ statement_at t k older
-found-behind t k [] older most = refl
-found-behind t k (m.Created line session table ∷ newer) older most = found-behind t k newer older most
-found-behind t k (m.Began line session u level ∷ newer) older most = found-behind t k newer older most
-found-behind t k (m.Ran line session command u statement ∷ newer) older most =
-    passed (u == t) (suc (statement_count t (newer ++ older)) == k) statement (statement_at t k (newer ++ older)) (statement_at t k older)
-    (not_equal (suc (statement_count t (newer ++ older))) k (omega (arith, count-least t newer older, most))) (found-behind t k newer older most)
-found-behind t k (m.Committed line session u ∷ newer) older most = found-behind t k newer older most
-found-behind t k (m.Ended line session end u ∷ newer) older most = found-behind t k newer older most
-
-taken : (own same : Bool) (here statement : Statement) (found : Option Statement) → same ≡ true → cond own (Some here) None ≡ Some statement → cond (own && same) (Some here) found ≡ Some statement
+taken : (mine same : Bool) (here statement : Statement) (found : Option Statement) → same ≡ true → cond mine (Some here) None ≡ Some statement → cond (mine && same) (Some here) found ≡ Some statement
 taken true true here statement found is e = e
 taken true false here statement found is e = absurd (cc)
 taken false same here statement found is e = absurd (cc)
@@ -97,13 +45,13 @@ found-here t (m.Ended line session end u) older statement is = absurd (cc)
 -- the statement at a place is the next one of its transaction
 pub statement-here : (t : ℕ) (entries : List Entry) (place : ℕ) (entry : Entry) (statement : Statement) → slice_get entries place ≡ Some entry
     → own_statement t (entry_view entry) ≡ Some statement → statement_at t (suc (statement_count t (log_view (take place entries)))) (log_view entries) ≡ Some statement
-statement-here t entries place entry statement is own =
+statement-here t entries place entry statement is mine =
     let older : List m.Entry = log_view (take place entries) in
     let count : statement_count t (entry_view entry ∷ older) ≡ suc (statement_count t older) =
-    count-more t (entry_view entry) older ∙ ap (λ (s : Option Statement). ran_more s (statement_count t older)) own in
+    count-more t (entry_view entry) older ∙ ap (λ (s : Option Statement). ran_more s (statement_count t older)) mine in
     ap (statement_at t (suc (statement_count t older))) (log-cut entries place entry is)
     ∙ (found-behind t (suc (statement_count t older)) (log_view (drop (place + 1) entries)) (entry_view entry ∷ older) (omega (arith, count))
-    ∙ found-here t (entry_view entry) older statement own)
+    ∙ found-here t (entry_view entry) older statement mine)
 
 -- ---- what fits
 

@@ -76,11 +76,11 @@ module _ (n : ℕ) (tables : ℕ → Query) (are : (table : ℕ) → ReadsUpTo n
   made_up_to t k (branch ∷ branches) = made_onto_up_to t k 2 branches (q.new_rows t k 1 (branch_of tables branch)) (branch_up_to branch)
 
   rewritten_up_to : (columns : ℕ → ℕ) (t k : ℕ) (statement : Statement) → ReadsUpTo n (rewritten columns t k statement tables)
-  rewritten_up_to columns t k (insert own rows) = each_append (IsUpTo n) (annotated_query_scans (tables own)) [] (are own) tt
-  rewritten_up_to columns t k (insert_select own select) =
-      each_append (IsUpTo n) (annotated_query_scans (tables own)) (annotated_query_scans (made_of t k tables select)) (are own) (made_up_to t k select)
-  rewritten_up_to columns t k (update own sets c) = are own
-  rewritten_up_to columns t k (delete own c) = are own
+  rewritten_up_to columns t k (insert written rows) = each_append (IsUpTo n) (annotated_query_scans (tables written)) [] (are written) tt
+  rewritten_up_to columns t k (insert_select written select) =
+      each_append (IsUpTo n) (annotated_query_scans (tables written)) (annotated_query_scans (made_of t k tables select)) (are written) (made_up_to t k select)
+  rewritten_up_to columns t k (update written sets c) = are written
+  rewritten_up_to columns t k (delete written c) = are written
   rewritten_up_to columns t k (read select) = (omega arith, tt)
 
 -- ---- composed programs
@@ -141,9 +141,9 @@ module _ (n : ℕ) (columns : ℕ → ℕ) (log : Log) (t : ℕ) where
       one None = tt
       one (Some statement) = two (target statement)
         where
-          two : (own : Option ℕ) → AllByRecursion (IsUpTo n) (annotated_steps_scans (steps_of columns t (suc k) (current_before log t k) statement own))
+          two : (written : Option ℕ) → AllByRecursion (IsUpTo n) (annotated_steps_scans (steps_of columns t (suc k) (current_before log t k) statement written))
           two None = tt
-          two (Some own) =
+          two (Some written) =
               each_append (IsUpTo n) (annotated_query_scans (rewritten columns t (suc k) statement (current_before log t k))) []
               (rewritten_up_to n (current_before log t k) (λ table. before_up_to k table within) columns t (suc k) statement) tt
 

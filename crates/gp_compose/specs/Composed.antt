@@ -2,7 +2,7 @@
 -- table is a step, over the current query of each table: the step that wrote the table last, or a scan of the version that the statement reads. Where a
 -- statement reads another version than the one before, PUBLISH moves what the transaction wrote onto it. What a COMMIT published is PUBLISH onto the version
 -- before the commit.
-use Rattle.std.specs.Prelude.{ℕ, zero, suc, ◌==◌, Bool, false, List, [], ◌∷◌, ◌++◌, Option, Some, None, option_and_then, if◌then◌else◌}
+use Rattle.std.specs.Prelude.{ℕ, zero, suc, ◌==◌, Bool, false, List, [], ◌++◌, Option, Some, None, option_and_then, if◌then◌else◌}
 use Rattle.std.specs.Option.{option_map, option_map_or, option_to_list}
 use Rattle.gp_grammar.specs.Syntax as y
 use Rattle.gp_algebra.specs.Statements.{Statement, Select, target}
@@ -16,7 +16,7 @@ use Rattle.gp_rewrite.specs.Rewriting.{rewritten, query_of}
 
 -- a number without a statement writes nothing
 abbrev pub writes : Option Statement → ℕ → Bool
-writes statement table = option_map_or (λ own. table == own) (option_and_then target statement) false
+writes statement table = option_map_or (λ written. table == written) (option_and_then target statement) false
 
 -- among the first statements of the transaction, this many
 abbrev pub last_write : Log → ℕ → ℕ → ℕ → Option ℕ

@@ -7,9 +7,9 @@ use Rattle.gp_rewrite.specs.Rewriting.{rewritten}
 
 -- whether a statement that writes this table, or none, writes a table
 abbrev pub is_target : Option ℕ → ℕ → Bool
-is_target own table = option_map_or (λ own. table == own) own false
+is_target written table = option_map_or (λ written. table == written) written false
 
 -- the steps of a statement that writes this table, or none
 abbrev pub steps_of : (ℕ → ℕ) → ℕ → ℕ → (ℕ → Query) → Statement → Option ℕ → List QueryStep
-steps_of columns t k tables statement own =
-    option_to_list (option_map (λ table. record { j = k; table = table; query = rewritten columns t k statement tables }) own)
+steps_of columns t k tables statement written =
+    option_to_list (option_map (λ table. record { j = k; table = table; query = rewritten columns t k statement tables }) written)

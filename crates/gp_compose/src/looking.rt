@@ -10,7 +10,6 @@ ghost use Rattle.gp_compose.specs.Composing as c;
 ghost use Rattle.gp_compose.specs.Composing.{HasStatement, looking_in};
 ghost use Rattle.gp_compose.specs.Composition.{HasTable};
 
-use crate::state_check::begin_version;
 use crate::steps::{Parts, composed};
 use gp_algebra::{AProgram, AQuery, Stmt, copy_query};
 use gp_base::NoMemory;
@@ -66,7 +65,7 @@ pub fn looked(
 {
     log.bounds();
     let k = before + 1;
-    let mut parts = composed(alloc, log, t, begin_version(log, t), before)?;
+    let mut parts = composed(alloc, log, t, log.begin_version(t), before)?;
     parts.move_to(alloc, log.version_read_by(t, k))?;
     let last = looking(alloc, k, stmt, &parts.tables)?;
     parts.add(alloc, t, stmt, log.catalog())?;

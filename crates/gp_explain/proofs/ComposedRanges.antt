@@ -1,41 +1,21 @@
 -- The programs of the states of a small log are in range, so they have texts, which explain the states.
-use Rattle.std.proofs.Common.{◌≡◌, ◌≤◌, ℕ, zero, suc, Bool, true, false, cond, List, [], ◌∷◌, length, refl, subst, arith, Option, Some, None}
-use Rattle.std.specs.Prelude.{◌==◌, ◌&&◌, nat_lt, nat_le, not, is_none}
-use Rattle.std.specs.List.{AllByRecursion}
-use Rattle.std.proofs.lemmas.Bool.{leb-true}
-use Rattle.std.proofs.lemmas.Option.{none-some, same_Some}
-use Rattle.gp_base.specs.declared.refusal.Refusal.TheVariants.{E20, E21, E22, E23}
-use Rattle.gp_base.specs.declared.table.Table.{Table}
-use Rattle.gp_grammar.specs.declared.limits.TheConstants.{MAX_COLUMNS}
+use Rattle.gp_explain.proofs.Prelude.{◌≡◌, ◌≤◌, ℕ, zero, suc, Bool, true, false, cond, List, [], ◌∷◌, length, refl, subst, arith, Option, Some, None, ◌==◌, ◌&&◌, nat_lt, nat_le, not, is_none, AllByRecursion, leb-true, none-some, E20, E21, Table, MAX_COLUMNS, Query, step_table, select_fits, statement_fits, Select, Statement, target, width_of, Entry, Log, fate_of, log_of, transactions_in, version_of, version_before, log_refusal, statement_refusal, transaction_refusal, tables_in, statements_fit, statement_at_fits, query_of, program_after, program_as_of, program_of_commit, composed, current, current_before, last_write, moved, onto, program_at, published_query, step_of, writes, steps_of, plain_program, merged_at, program_text, Explains, IsU32, ProgramInRange, AreNamed, HasFewTables, StatementIsSmall, each_append, some_none, and_parts}
+use Rattle.std.proofs.lemmas.Option.{same_Some}
+use Rattle.gp_base.specs.declared.refusal.Refusal.TheVariants.{E22, E23}
 use Rattle.gp_grammar.specs.Syntax as y
 use Rattle.gp_algebra.specs.AnnotatedQueries as q
-use Rattle.gp_algebra.specs.AnnotatedQueries.{Query, step_table}
-use Rattle.gp_algebra.specs.Fitting.{select_fits, statement_fits}
-use Rattle.gp_algebra.specs.Statements.{Select, Statement, target, width_of}
-use Rattle.gp_machine.specs.Entries.{Entry, Created, Began, Ran, Committed, Ended, Log, at_newest, begin_version, fate_of, is_read_committed, is_statement_at, log_of, read_next, statement_at, statement_count, statement_version, transactions_in, version_of, versions_in}
-use Rattle.gp_machine.specs.Points.{version_before}
-use Rattle.gp_machine.specs.Questions.{log_refusal, statement_refusal, transaction_refusal}
+use Rattle.gp_machine.specs.Entries.{Created, Began, Ran, Committed, Ended, at_newest, begin_version, is_read_committed, is_statement_at, read_next, statement_at, statement_count, statement_version, versions_in}
 use Rattle.gp_machine.proofs.EntryCounts.{count-most}
-use Rattle.gp_log.specs.LogFacts.{tables_in}
-use Rattle.gp_log.specs.LogFitting.{statements_fit}
-use Rattle.gp_log.proofs.FittingLogs.{statement_at_fits}
-use Rattle.gp_rewrite.specs.Rewriting.{query_of}
-use Rattle.gp_compose.specs.Composed.{program_after, program_as_of, program_of_commit, composed, current, current_before, last_write, moved, onto, program_at, published_query, step_of, writes}
-use Rattle.gp_compose.specs.StepForms.{steps_of}
-use Rattle.gp_prov.specs.ToPlain.{plain_program}
-use Rattle.gp_reenact.specs.Programs.{merged_at}
-use Rattle.gp_plantext.specs.Spelling.{program_text}
-use Rattle.gp_explain.specs.Explained.{Explains}
-use Rattle.gp_explain.specs.Numbers.{IsU32, ProgramInRange}
-use Rattle.gp_explain.specs.Shapes.{AreNamed}
-use Rattle.gp_explain.specs.SmallLogs.{EntryIsSmall, HasFewTables, IsSmall, StatementIsSmall}
-use Rattle.gp_explain.proofs.ComposedShapes.{merged_at_shaped}
-use Rattle.gp_explain.proofs.MeaningLemmas.{spelled_explains}
+use Rattle.gp_explain.specs.SmallLogs.{EntryIsSmall, IsSmall}
+use Rattle.gp_compose.specs.Seen.{missing_statement_refusal, saw_refusal, unknown_refusal}
+use Rattle.gp_explain.proofs.ComposedShapes.{merged_at_shaped, seen_shaped}
+use Rattle.gp_explain.proofs.MeaningLemmas.{spelled_explains, spelled_saw}
 use Rattle.gp_explain.proofs.MergedRanges.{merged_range}
 use Rattle.gp_explain.proofs.PlainRanges.{AnnotatedInRange, AnnotatedStepInRange, program_range, reach, widths}
 use Rattle.gp_explain.proofs.RangeLemmas.{program_spelled}
 use Rattle.gp_explain.proofs.RewrittenRanges.{query_range, rewritten_range}
-use Rattle.gp_base.proofs.SmallLemmas.{each_append, none_parts, some_none}
+use Rattle.gp_base.proofs.SmallLemmas.{none_parts}
+use Rattle.gp_reenact.proofs.LookingLemmas.{known_of}
 
 -- ---- the tables that statements read
 
@@ -218,18 +198,23 @@ module _ (entries : List Entry) (small : IsSmall entries) (fit : statements_fit 
   at_fits : (t k : ℕ) (statement : Statement) → statement_at t (suc k) entries ≡ Some statement → (statement_fits tables statement ≡ true) × StatementIsSmall statement
   at_fits t k statement e = (statement_at_fits tables entries fit t (suc k) statement e, at_small entries small.statements t (suc k) statement e)
 
+  -- what a transaction of this number saw
+  after_range : (t k : ℕ) → t ≤ transactions_in entries → k ≤ statement_count t entries → ProgramInRange (plain_program (width_of tables) prov (program_at (width_of tables) entries (y.after t k) select))
+  after_range t k known some =
+      let steps = composed (width_of tables) (log_of entries) t k in
+      let transaction = within t (transactions_in entries) known (count-most _ entries) in
+      let count = within k (statement_count t entries) some (count-most _ entries) in
+      program_range (width_of tables) prov (program_after (width_of tables) (log_of entries) t k select)
+      (composed_range tables small.columns (step_table steps) prov (log_of entries) t transaction (read_most t) (at_fits t) k count)
+      (read_range tables small.columns (step_table steps) prov (log_of entries) t transaction (read_most t) (at_fits t) k count select fitting short)
+
   point_range : (point : y.Point) → log_refusal entries point ≡ None → ProgramInRange (plain_program (width_of tables) prov (program_at (width_of tables) entries point select))
   point_range (y.as_of version) e =
       program_range (width_of tables) prov (program_as_of version select) tt
       (version_range tables small.columns (step_table []) prov version (within version (versions_in entries) (as_of_most entries version e) (versions_most entries)) select fitting short)
   point_range (y.after t k) e =
       let parts = none_parts (transaction_refusal t entries) (statement_refusal t k entries) e in
-      let steps = composed (width_of tables) (log_of entries) t k in
-      let transaction = within t (transactions_in entries) (known_most entries t parts.0) (count-most _ entries) in
-      let count = within k (statement_count t entries) (statement_most entries t k parts.1) (count-most _ entries) in
-      program_range (width_of tables) prov (program_after (width_of tables) (log_of entries) t k select)
-      (composed_range tables small.columns (step_table steps) prov (log_of entries) t transaction (read_most t) (at_fits t) k count)
-      (read_range tables small.columns (step_table steps) prov (log_of entries) t transaction (read_most t) (at_fits t) k count select fitting short)
+      after_range t k (known_most entries t parts.0) (statement_most entries t k parts.1)
   point_range (y.Point.commit t) e =
       let before = version_before (version_of t entries) in
       let steps = composed (width_of tables) (log_of entries) t (statement_count t entries) in
@@ -246,7 +231,30 @@ module _ (entries : List Entry) (small : IsSmall entries) (fit : statements_fit 
       → Explains entries point select prov (program_text tables (merged_at prov entries point select))
   small_explained named point e =
       let program = merged_at prov entries point select in
-      spelled_explains entries select fit fitting point e prov (program_text tables program) (record {
+      spelled_explains entries select fit fitting point prov e (program_text tables program) (record {
         spellable = program_spelled tables program (merged_at_shaped entries named.named fit prov select fitting point e) (merged_at_range point e);
+        is = refl;
+      })
+
+-- what a transaction saw, whatever became of it
+module _ (entries : List Entry) (t k : ℕ) (known : saw_refusal t k entries ≡ None) where
+  seen_most : t ≤ transactions_in entries
+  seen_most = leb-true t (transactions_in entries) (and_parts (nat_lt 0 t) (nat_le t (transactions_in entries)) (known_of t k entries known)).1
+
+  seen_count : k ≤ statement_count t entries
+  seen_count = go (nat_le k (statement_count t entries)) refl (none_parts (unknown_refusal t entries) (missing_statement_refusal t k entries) known).1
+    where
+      go : (b : Bool) → nat_le k (statement_count t entries) ≡ b → cond b None (Some (E22 t (statement_count t entries))) ≡ None → k ≤ statement_count t entries
+      go true is e = leb-true k (statement_count t entries) is
+      go false is e = absurd (some_none (E22 t (statement_count t entries)) e)
+
+  pub small_saw_explained : IsSmall entries → statements_fit (tables_in entries) entries ≡ true → (select : Select) → select_fits (tables_in entries) select ≡ true → HasFewTables select
+      → AreNamed (tables_in entries) → Explains entries (y.after t k) select false (program_text (tables_in entries) (merged_at false entries (y.after t k) select))
+  small_saw_explained small fit select fitting short named =
+      let program = merged_at false entries (y.after t k) select in
+      spelled_saw entries select fit fitting t k known (program_text (tables_in entries) program) (record {
+        spellable = program_spelled (tables_in entries) program (seen_shaped entries named.named fit select fitting t k known)
+            (merged_range (plain_program (width_of (tables_in entries)) false (program_at (width_of (tables_in entries)) entries (y.after t k) select))
+            (after_range entries small fit false select fitting short t k seen_most seen_count));
         is = refl;
       })

@@ -1,35 +1,13 @@
 -- The programs of states are shaped, if all statements fit the tables, and these have names.
-use Rattle.std.proofs.Common.{◌≡◌, ◌<◌, ℕ, zero, suc, Bool, true, false, cond, List, refl, arith, Option, Some, None}
-use Rattle.std.specs.Prelude.{◌==◌, ◌&&◌, nat_lt, nat_le, not, is_none}
-use Rattle.std.specs.List.{list_all}
+use Rattle.gp_explain.proofs.Prelude.{◌≡◌, ◌<◌, ℕ, zero, suc, Bool, true, false, cond, List, refl, arith, Option, Some, None, ◌==◌, ◌&&◌, nat_lt, nat_le, not, is_none, list_all, and_from, nat_tests, Refusal, E20, E21, Table, Query, is_there, select_fits, statement_fits, Select, Statement, target, width_of, Entry, Log, log_of, version_of, fate_of, transactions_in, version_before, log_refusal, statement_refusal, transaction_refusal, statements_fit, tables_in, rewritten, program_after, program_as_of, program_of_commit, composed, current, current_before, last_write, moved, onto, program_at, published_query, step_of, writes, steps_of, statement_at_fits, table_is_spellable, merged_at, plain_program, annotated_is_shaped, annotated_step_is_shaped, has_tables, is_shaped, some_none, and_parts, ltb-true}
 use Rattle.std.specs.Option.{option_or}
-use Rattle.std.proofs.lemmas.Bool.{and_from}
-use Rattle.std.proofs.lemmas.Bool.Decides.{nat_tests}
-use Rattle.gp_base.specs.declared.refusal.Refusal.{Refusal}
-use Rattle.gp_base.specs.declared.refusal.Refusal.TheVariants.{E20, E21}
-use Rattle.gp_base.specs.declared.table.Table.{Table}
+use Rattle.gp_compose.specs.Seen.{saw_refusal}
 use Rattle.gp_grammar.specs.Syntax as y
 use Rattle.gp_algebra.specs.AnnotatedQueries as q
-use Rattle.gp_algebra.specs.AnnotatedQueries.{Query, QueryStep, Program}
-use Rattle.gp_algebra.specs.Fitting.{is_there, select_fits, statement_fits}
-use Rattle.gp_algebra.specs.Statements.{Select, Statement, target, width_of}
-use Rattle.gp_machine.specs.Entries.{Entry, Log, log_of, version_of, fate_of, transactions_in}
-use Rattle.gp_machine.specs.Points.{version_before}
-use Rattle.gp_machine.specs.Questions.{log_refusal, statement_refusal, transaction_refusal}
-use Rattle.gp_log.specs.LogFitting.{statements_fit}
-use Rattle.gp_log.specs.LogFacts.{tables_in}
-use Rattle.gp_rewrite.specs.Rewriting.{rewritten}
-use Rattle.gp_compose.specs.Composed.{program_after, program_as_of, program_of_commit, composed, current, current_before, last_write, moved, onto, program_at, published_query, step_of, writes}
-use Rattle.gp_compose.specs.StepForms.{steps_of}
-use Rattle.gp_log.proofs.FittingLogs.{statement_at_fits}
-use Rattle.gp_plantext.specs.Spellable.{table_is_spellable}
-use Rattle.gp_reenact.specs.Programs.{merged_at}
-use Rattle.gp_prov.specs.ToPlain.{plain_program}
-use Rattle.gp_explain.specs.Shapes.{annotated_is_shaped, annotated_step_is_shaped, has_tables, is_shaped}
 use Rattle.gp_explain.proofs.MergedShapes.{merged_shaped}
+use Rattle.gp_reenact.proofs.LookingLemmas.{known_of}
 use Rattle.gp_explain.proofs.PlainShapes.{all_joined, program_shaped}
 use Rattle.gp_explain.proofs.RewrittenShapes.{query_shaped, rewritten_shaped, target_there}
-use Rattle.gp_base.proofs.SmallLemmas.{some_none}
 
 module _ (catalogue : List Table) (named : (table : ℕ) → is_there catalogue table ≡ true → table_is_spellable catalogue table ≡ true) where
   abbrev AreShaped : (ℕ → Query) → Type 0
@@ -136,11 +114,13 @@ module _ (catalogue : List Table) (named : (table : ℕ) → is_there catalogue 
       go false is e = absurd (some_none (E20 t) e)
 
   module _ (entries : List Entry) (fit : statements_fit catalogue entries ≡ true) (prov : Bool) (select : Select) (fitting : select_fits catalogue select ≡ true) where
+    saw_shaped : (t k : ℕ) → 0 < t → is_shaped catalogue (plain_program (width_of catalogue) prov (program_at (width_of catalogue) entries (y.after t k) select)) ≡ true
+    saw_shaped t k some = after_shaped (log_of entries) t some (λ k statement e. statement_at_fits catalogue entries fit t (suc k) statement e) prov k select fitting
+
     point_shaped : (point : y.Point) → log_refusal entries point ≡ None
         → is_shaped catalogue (plain_program (width_of catalogue) prov (program_at (width_of catalogue) entries point select)) ≡ true
     point_shaped (y.as_of version) e = as_of_shaped prov version select fitting
-    point_shaped (y.after t k) e =
-        after_shaped (log_of entries) t (known_counts entries t (first (transaction_refusal t entries) e)) (λ k statement e. statement_at_fits catalogue entries fit t (suc k) statement e) prov k select fitting
+    point_shaped (y.after t k) e = saw_shaped t k (known_counts entries t (first (transaction_refusal t entries) e))
       where
         first : (o : Option Refusal) → option_or o (statement_refusal t k entries) ≡ None → o ≡ None
         first None e = refl
@@ -155,3 +135,12 @@ pub merged_at_shaped : (entries : List Entry) → ((table : ℕ) → is_there (t
 merged_at_shaped entries named fit prov select fitting point known =
     merged_shaped (tables_in entries) (plain_program (width_of (tables_in entries)) prov (program_at (width_of (tables_in entries)) entries point select))
     (point_shaped (tables_in entries) named entries fit prov select fitting point known)
+
+-- that of what a transaction saw
+pub seen_shaped : (entries : List Entry) → ((table : ℕ) → is_there (tables_in entries) table ≡ true → table_is_spellable (tables_in entries) table ≡ true)
+    → statements_fit (tables_in entries) entries ≡ true → (select : Select) → select_fits (tables_in entries) select ≡ true
+    → (t k : ℕ) → saw_refusal t k entries ≡ None → is_shaped (tables_in entries) (merged_at false entries (y.after t k) select) ≡ true
+seen_shaped entries named fit select fitting t k known =
+    merged_shaped (tables_in entries) (plain_program (width_of (tables_in entries)) false (program_at (width_of (tables_in entries)) entries (y.after t k) select))
+    (saw_shaped (tables_in entries) named entries fit false select fitting t k
+    (ltb-true 0 t (and_parts (nat_lt 0 t) (nat_le t (transactions_in entries)) (known_of t k entries known)).0))

@@ -1,17 +1,7 @@
 -- Expressions that fit a catalogue are shaped: their constants are cells that a user can write, and they make no identities.
-use Rattle.std.proofs.Common.{◌≡◌, ℕ, Bool, true, List, refl}
-use Rattle.std.specs.Prelude.{◌&&◌}
-use Rattle.std.specs.List.{list_all}
-use Rattle.std.proofs.lemmas.Bool.{false≢true, and_from}
-use Rattle.gp_base.specs.declared.cell.Cell.{Cell}
+use Rattle.gp_explain.proofs.Prelude.{◌≡◌, ℕ, Bool, true, List, refl, ◌&&◌, list_all, false≢true, and_from, Cell, is_user_cell, Expr, Cond, is_simple, cond_is_simple, all_leaves, cond_all_leaves, is_column, expr_fits, cond_fits, cell_is_shaped, expr_is_shaped, cond_is_shaped, all_weaker, left_true, right_true}
 use Rattle.gp_base.specs.declared.cell.Cell.TheVariants as cell
-use Rattle.gp_base.specs.UserCells.{is_user_cell}
 use Rattle.gp_expr.specs.Expressions as e
-use Rattle.gp_expr.specs.Expressions.{Expr, Cond}
-use Rattle.gp_expr.specs.ExpressionForms.{is_simple, cond_is_simple, all_leaves, cond_all_leaves}
-use Rattle.gp_algebra.specs.Fitting.{is_column, expr_fits, cond_fits}
-use Rattle.gp_explain.specs.Shapes.{cell_is_shaped, expr_is_shaped, cond_is_shaped}
-use Rattle.gp_base.proofs.SmallLemmas.{all_weaker, left_true, right_true}
 
 pub user_cell : (x : Cell) → is_user_cell x ≡ true → cell_is_shaped x ≡ true
 user_cell cell.Null so = refl

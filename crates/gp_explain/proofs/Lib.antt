@@ -1,3 +1,4 @@
+pub mod Prelude
 pub mod ExplainLemmas
 pub mod FittingShapes
 pub mod RewrittenShapes

@@ -1,15 +1,11 @@
 -- A text that ends in a line feed is its lines.
-use Rattle.std.proofs.Common.{◌≡◌, ℕ, Bool, true, false, cond, List, [], ◌∷◌, ◌++◌, refl, sym, ap, ◌∙◌, append_assoc}
-use Rattle.std.specs.Prelude.{◌==◌, not, codes}
-use Rattle.std.specs.List.{flat_map, list_all}
-use Rattle.std.proofs.lemmas.Bool.{and_from, eqb-true}
-use Rattle.std.proofs.lemmas.List.Folds.{list_all-append}
-use Rattle.gp_base.specs.declared.table.Table.{Table}
+use Rattle.gp_explain.proofs.Prelude.{◌≡◌, ℕ, Bool, true, false, cond, List, [], ◌∷◌, ◌++◌, refl, sym, ap, ◌∙◌, ◌==◌, not, list_all, and_from, list_all-append, Table, PlainProgram, Spells, program_text, lines_from, text_lines}
+use Rattle.std.proofs.Common.{append_assoc}
+use Rattle.std.specs.Prelude.{codes}
+use Rattle.std.specs.List.{flat_map}
+use Rattle.std.proofs.lemmas.Bool.{eqb-true}
 use Rattle.gp_base.specs.Numbered.{newline}
-use Rattle.gp_algebra.specs.Plain.{PlainProgram}
-use Rattle.gp_plantext.specs.Spelling.{Spells}
-use Rattle.gp_plantext.specs.Spelling.{last_text, program_text, query_text, step_text}
-use Rattle.gp_explain.specs.ExplainedLines.{lines_from, text_lines}
+use Rattle.gp_plantext.specs.Spelling.{last_text, query_text, step_text}
 use Rattle.gp_explain.specs.LineTexts.{AreLines, is_line}
 
 -- whether nothing is behind the last line feed, given whether nothing is before the text

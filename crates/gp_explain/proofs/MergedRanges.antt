@@ -1,13 +1,5 @@
 -- Merged programs are in range, if the programs are.
-use Rattle.std.proofs.Common.{ℕ, Bool, true, false, cond, List, [], ◌∷◌, map}
-use Rattle.std.specs.Prelude.{◌==◌}
-use Rattle.std.specs.List.{AllByRecursion}
-use Rattle.gp_expr.specs.Expressions.{Expr, Cond}
-use Rattle.gp_expr.specs.Substitution.{substituted_each}
-use Rattle.gp_algebra.specs.Plain.{Plain, scan, step, select, project, product, union, given, publish, PlainStep, PlainProgram}
-use Rattle.gp_merge.specs.Merging.{inlined, stays, settled, is_small, selected, projected, rebuilt, merged}
-use Rattle.gp_merge.specs.MergingForms.{program_inlined}
-use Rattle.gp_explain.specs.Numbers.{QueryInRange, StepInRange, ProgramInRange}
+use Rattle.gp_explain.proofs.Prelude.{ℕ, Bool, true, false, cond, List, [], ◌∷◌, map, ◌==◌, AllByRecursion, Expr, Cond, substituted_each, Plain, scan, step, select, project, product, union, given, publish, PlainStep, PlainProgram, inlined, stays, settled, is_small, selected, projected, rebuilt, merged, program_inlined, QueryInRange, StepInRange, ProgramInRange}
 use Rattle.gp_explain.proofs.SubstitutionRanges.{each_range}
 
 abbrev Stays : Plain → Plain → Type 0

@@ -1,18 +1,6 @@
 -- Merged programs are shaped, if the programs are.
-use Rattle.std.proofs.Common.{◌≡◌, ℕ, Bool, true, false, cond, List, [], ◌∷◌, refl, ◌∙◌, map}
-use Rattle.std.specs.Prelude.{◌&&◌, ◌==◌}
-use Rattle.std.specs.List.{list_all}
-use Rattle.std.proofs.lemmas.Bool.{and_parts, and_from}
-use Rattle.gp_base.specs.declared.table.Table.{Table}
-use Rattle.gp_expr.specs.Expressions.{Expr, Cond}
-use Rattle.gp_expr.specs.Substitution.{substituted_each}
-use Rattle.gp_algebra.specs.Plain.{Plain, scan, step, select, project, product, union, given, publish, PlainStep, PlainProgram}
-use Rattle.gp_merge.specs.Merging.{inlined, stays, settled, is_small, selected, projected, rebuilt, merged}
-use Rattle.gp_merge.specs.MergingForms.{program_inlined}
-use Rattle.gp_plantext.specs.Spellable.{has_item, table_is_spellable}
-use Rattle.gp_explain.specs.Shapes.{expr_is_shaped, cond_is_shaped, query_is_shaped, step_is_shaped, is_shaped}
+use Rattle.gp_explain.proofs.Prelude.{◌≡◌, ℕ, Bool, true, false, cond, List, [], ◌∷◌, refl, ◌∙◌, map, ◌&&◌, ◌==◌, list_all, and_parts, and_from, Table, Expr, Cond, substituted_each, Plain, scan, step, select, project, product, union, given, publish, PlainStep, PlainProgram, inlined, stays, settled, is_small, selected, projected, rebuilt, merged, program_inlined, has_item, table_is_spellable, expr_is_shaped, cond_is_shaped, query_is_shaped, step_is_shaped, is_shaped, both_follow}
 use Rattle.gp_explain.proofs.PlainShapes.{each_stays, same_items}
-use Rattle.gp_base.proofs.SmallLemmas.{both_follow}
 
 both : {a b : Bool} → a ≡ true → b ≡ true → (a && b) ≡ true
 both {a = a} {b = b} x y = and_from a b x y

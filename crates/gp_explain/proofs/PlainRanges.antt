@@ -1,27 +1,14 @@
 -- Plain programs are in range, if the annotated ones that they are made of are.
-use Rattle.std.proofs.Common.{◌≡◌, ◌≤◌, ℕ, zero, suc, ◌+◌, Bool, true, false, List, [], ◌∷◌, ◌++◌, length, map, sum, refl, arith, Option, Some, None}
-use Rattle.std.specs.List.{AllByRecursion}
+use Rattle.gp_explain.proofs.Prelude.{◌≡◌, ◌≤◌, ℕ, zero, suc, ◌+◌, Bool, true, false, List, [], ◌∷◌, ◌++◌, length, map, refl, arith, Option, Some, None, AllByRecursion, Cell, Queried, monomials, IsInRange, AreInRange, each_append, Expr, substituted_each, Change, Query, QueryStep, Program, step_table, given_from, columns_behind, encoded_row, noted, system_width, users_from, identities_from, times_from, product_of, changed_columns, new_columns, answer_columns, widths_of, plain_query, plain_last, plain_step, plain_program, IsU32, ExprInRange, PartsInRange, QueryInRange, StepInRange, ProgramInRange}
+use Rattle.std.proofs.Common.{sum}
 use Rattle.std.proofs.lemmas.List.Sums.{sum_by-cons}
-use Rattle.gp_base.specs.declared.cell.Cell.{Cell}
 use Rattle.gp_base.specs.declared.cell.Cell.TheVariants as cell
 use Rattle.gp_base.specs.declared.token.Token.{Token}
-use Rattle.gp_base.specs.declared.token.Token.TheVariants.{Inserted, Queried}
-use Rattle.gp_base.specs.Annotated.{monomials}
-use Rattle.gp_base.specs.CellForms.{IsInRange, AreInRange}
+use Rattle.gp_base.specs.declared.token.Token.TheVariants.{Inserted}
 use Rattle.gp_base.specs.MonomialForms.{IsMonomial, IsToken}
 use Rattle.gp_base.specs.Tokens as m
-use Rattle.gp_base.proofs.SmallLemmas.{each_append}
 use Rattle.gp_expr.specs.Expressions as e
-use Rattle.gp_expr.specs.Expressions.{Expr}
-use Rattle.gp_expr.specs.Substitution.{substituted_each}
 use Rattle.gp_algebra.specs.AnnotatedQueries as q
-use Rattle.gp_algebra.specs.AnnotatedQueries.{Change, Query, QueryStep, Program, step_table}
-use Rattle.gp_algebra.specs.Effects.{given_from}
-use Rattle.gp_algebra.specs.Plain.{Plain}
-use Rattle.gp_algebra.specs.Statements.{columns_behind}
-use Rattle.gp_prov.specs.Encoding.{encoded_row, noted}
-use Rattle.gp_prov.specs.ToPlain.{system_width, users_from, identities_from, times_from, product_of, changed_columns, new_columns, answer_columns, widths_of, plain_query, plain_last, plain_step, plain_program}
-use Rattle.gp_explain.specs.Numbers.{IsU32, ExprInRange, PartsInRange, QueryInRange, StepInRange, ProgramInRange}
 use Rattle.gp_explain.proofs.SubstitutionRanges.{IsFree, CondIsFree}
 
 -- ---- how far the columns of joined rows reach, whose parts have so many user columns each

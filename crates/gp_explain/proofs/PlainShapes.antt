@@ -1,30 +1,12 @@
 -- Plain programs are shaped, if the annotated ones that they are made of are.
-use Rattle.std.proofs.Common.{◌≡◌, ℕ, zero, suc, ◌+◌, Bool, true, false, List, [], ◌∷◌, ◌++◌, map, refl, ◌∙◌, arith, Option, Some, None}
-use Rattle.std.specs.Prelude.{◌&&◌, get_or, nat_le}
-use Rattle.std.specs.List.{list_all}
-use Rattle.std.proofs.lemmas.Bool.{false≢true, and_from}
-use Rattle.std.proofs.lemmas.Bool.Decides.{nat_tests}
-use Rattle.std.proofs.lemmas.List.Folds.{list_all-append}
-use Rattle.gp_base.specs.declared.cell.Cell.{Cell}
+use Rattle.gp_explain.proofs.Prelude.{◌≡◌, ℕ, zero, suc, ◌+◌, Bool, true, false, List, [], ◌∷◌, ◌++◌, map, refl, ◌∙◌, arith, Option, Some, None, ◌&&◌, nat_le, list_all, false≢true, and_from, nat_tests, list_all-append, Cell, Table, Queried, monomials, Expr, Cond, Parts, chosen, substituted, substituted_cond, substituted_parts, substituted_each, Change, Query, QueryStep, Program, given_from, step_table, has_item, has_part, table_is_spellable, encoded_row, noted, system_width, users_from, identities_from, times_from, product_of, changed_columns, new_columns, answer_columns, widths_of, plain_query, plain_last, plain_step, plain_program, columns_behind, cell_is_shaped, expr_is_shaped, cond_is_shaped, parts_are_shaped, row_is_shaped, query_is_shaped, step_is_shaped, is_shaped, has_tables, has_sources, annotated_is_shaped, annotated_step_is_shaped, both_follow, left_true, right_true}
+use Rattle.std.specs.Prelude.{get_or}
 use Rattle.gp_base.specs.declared.cell.Cell.TheVariants as cell
-use Rattle.gp_base.specs.declared.table.Table.{Table}
-use Rattle.gp_base.specs.declared.token.Token.TheVariants.{Queried}
-use Rattle.gp_base.specs.Annotated.{monomials}
 use Rattle.gp_base.specs.Tokens as m
 use Rattle.gp_expr.specs.Expressions as e
-use Rattle.gp_expr.specs.Expressions.{Expr, Cond, Parts}
-use Rattle.gp_expr.specs.Substitution.{chosen, substituted, substituted_cond, substituted_parts, substituted_each}
 use Rattle.gp_algebra.specs.AnnotatedQueries as q
-use Rattle.gp_algebra.specs.AnnotatedQueries.{Change, Query, QueryStep, Program}
-use Rattle.gp_algebra.specs.Effects.{given_from}
 use Rattle.gp_algebra.specs.Plain as p
-use Rattle.gp_algebra.specs.AnnotatedQueries.{step_table}
-use Rattle.gp_plantext.specs.Spellable.{has_item, has_part, table_is_spellable}
-use Rattle.gp_prov.specs.Encoding.{encoded_row, noted}
-use Rattle.gp_prov.specs.ToPlain.{system_width, users_from, identities_from, times_from, product_of, changed_columns, new_columns, answer_columns, widths_of, plain_query, plain_last, plain_step, plain_program}
-use Rattle.gp_algebra.specs.Statements.{columns_behind}
-use Rattle.gp_explain.specs.Shapes.{cell_is_shaped, expr_is_shaped, cond_is_shaped, parts_are_shaped, row_is_shaped, query_is_shaped, step_is_shaped, is_shaped, has_tables, has_sources, change_is_shaped, annotated_is_shaped, annotated_step_is_shaped}
-use Rattle.gp_base.proofs.SmallLemmas.{both_follow, left_true, right_true}
+use Rattle.gp_explain.specs.Shapes.{change_is_shaped}
 
 -- one test follows from another, for both parts
 

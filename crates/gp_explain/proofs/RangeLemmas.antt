@@ -1,26 +1,17 @@
 -- A shaped program whose numbers are in range has a text.
-use Rattle.std.proofs.Common.{◌≡◌, ℕ, Bool, true, List, [], ◌∷◌, refl, sym, subst}
-use Rattle.std.specs.Prelude.{◌&&◌, nat_le}
-use Rattle.std.specs.List.{AllByRecursion, list_all}
-use Rattle.std.proofs.lemmas.Bool.{and_from, le-leb}
-use Rattle.gp_base.specs.declared.cell.Cell.{Cell}
+use Rattle.gp_explain.proofs.Prelude.{◌≡◌, ℕ, Bool, true, List, [], ◌∷◌, refl, sym, subst, ◌&&◌, nat_le, AllByRecursion, list_all, and_from, Cell, Table, IsInRange, AreInRange, Expr, Cond, Parts, Plain, PlainStep, PlainProgram, has_part, has_item, table_is_spellable, IsU32, ExprInRange, CondInRange, PartsInRange, QueryInRange, StepInRange, ProgramInRange, cell_is_shaped, expr_is_shaped, cond_is_shaped, parts_are_shaped, row_is_shaped, query_is_shaped, step_is_shaped, is_shaped, AreNamed, IsShaped, left_true, right_true}
+use Rattle.std.proofs.lemmas.Bool.{le-leb}
 use Rattle.gp_base.specs.declared.cell.Cell.TheVariants as cell
 use Rattle.gp_base.specs.declared.row_id.TheConstants.{MAX_NODES}
-use Rattle.gp_base.specs.declared.table.Table.{Table}
-use Rattle.gp_base.specs.CellForms.{IsInRange, AreInRange}
 use Rattle.gp_base.specs.Identities.{Identity, Sources, identity, no_sources, source, nodes}
 use Rattle.gp_base.specs.IdentityForms.{IsIdentity, AreIdentities}
 use Rattle.gp_base.specs.Tokens.{is_u32}
 use Rattle.gp_expr.specs.Expressions as e
-use Rattle.gp_expr.specs.Expressions.{Expr, Cond, Parts}
 use Rattle.gp_algebra.specs.Plain as p
-use Rattle.gp_algebra.specs.Plain.{Plain, PlainStep, PlainProgram}
-use Rattle.gp_plantext.specs.Spellable.{is_from_one, has_numbers, have_numbers, cell_is_spellable, expr_is_spellable, cond_is_spellable, has_part, has_item, row_is_spellable, table_is_spellable, query_is_spellable, step_is_spellable, is_spellable}
+use Rattle.gp_plantext.specs.Spellable.{is_from_one, has_numbers, have_numbers, cell_is_spellable, expr_is_spellable, cond_is_spellable, row_is_spellable, query_is_spellable, step_is_spellable, is_spellable}
 use Rattle.gp_plantext.specs.SpellableForms.{parts_are_spellable}
 use Rattle.gp_plantext.proofs.SpellableLemmas.{monomial-spellable}
-use Rattle.gp_explain.specs.Numbers.{IsU32, ExprInRange, CondInRange, PartsInRange, QueryInRange, StepInRange, ProgramInRange}
-use Rattle.gp_explain.specs.Shapes.{counts_from_one, count_from_one, cell_is_shaped, expr_is_shaped, cond_is_shaped, parts_are_shaped, row_is_shaped, query_is_shaped, step_is_shaped, is_shaped, AreNamed, IsShaped}
-use Rattle.gp_base.proofs.SmallLemmas.{left_true, right_true}
+use Rattle.gp_explain.specs.Shapes.{counts_from_one, count_from_one}
 
 u32 : (n : ℕ) → IsU32 n → is_u32 n ≡ true
 u32 n small = le-leb n 0xffff_ffff small

@@ -1,9 +1,7 @@
 -- What holds of each item of a list that is looked at from its first item to its last.
-use Rattle.std.proofs.Common.{◌≡◌, ℕ, zero, suc, ◌+◌, ◌<◌, ◌≤◌, List, [], ◌∷◌, get_or, map, drop, length, sym, subst, arith, add-one, drop-cons}
-use Rattle.std.specs.List.{AllByRecursion}
+use Rattle.gp_explain.proofs.Prelude.{◌≡◌, ℕ, zero, suc, ◌+◌, ◌<◌, ◌≤◌, List, [], ◌∷◌, get_or, map, drop, length, sym, subst, arith, AllByRecursion, expr_view, parts_of, ExprInRange, PartsInRange}
+use Rattle.std.proofs.Common.{add-one, drop-cons}
 use Rattle.gp_expr.specs.declared.expr.Expr.{Expr as Code}
-use Rattle.gp_expr.specs.Views.{expr_view, parts_of}
-use Rattle.gp_explain.specs.Numbers.{ExprInRange, PartsInRange}
 
 -- one more item
 pub next_all : {X : Type 0} (P : X → Type 0) (xs : List X) (i : ℕ) (x : X) → i < length xs → x ≡ get_or xs i x → P x

@@ -1,26 +1,10 @@
 -- Rewritten statements and queries are in range, if they fit the catalogue, join few tables, and the queries of its tables are.
-use Rattle.std.proofs.Common.{◌≡◌, ◌≤◌, ◌<◌, ℕ, zero, suc, ◌+◌, ◌*◌, Bool, true, false, cond, List, [], ◌∷◌, length, arith, Option, Some, None}
-use Rattle.std.specs.Prelude.{◌&&◌, ◌==◌, ◌^◌, nat_lt}
-use Rattle.std.specs.List.{AllByRecursion, list_all}
-use Rattle.std.proofs.lemmas.Bool.{ltb-true}
-use Rattle.gp_base.specs.declared.cell.Cell.{Cell}
-use Rattle.gp_base.specs.declared.table.Table.{Table}
-use Rattle.gp_base.specs.CellForms.{AreInRange}
-use Rattle.gp_base.specs.UserCells.{is_user_cell}
-use Rattle.gp_grammar.specs.declared.limits.TheConstants.{MAX_COLUMNS, MAX_FROM}
-use Rattle.gp_expr.specs.Expressions.{Expr, Cond}
-use Rattle.gp_algebra.specs.Statements.{SetExpr, Branch, Select, Statement, insert, insert_select, update, delete, read, width_of}
-use Rattle.gp_algebra.specs.Effects.{set_for}
-use Rattle.gp_algebra.specs.Fitting.{is_countable, is_there, is_column, joined_width, expr_fits, cond_fits, optional_cond_fits, row_fits, set_fits, branch_fits, branches_fit, select_width, select_fits, statement_fits}
+use Rattle.gp_explain.proofs.Prelude.{◌≡◌, ◌≤◌, ◌<◌, ℕ, zero, suc, ◌+◌, ◌*◌, Bool, true, false, cond, List, [], ◌∷◌, length, arith, Option, Some, None, ◌&&◌, ◌==◌, ◌^◌, nat_lt, AllByRecursion, list_all, ltb-true, Cell, Table, AreInRange, is_user_cell, MAX_COLUMNS, Expr, Cond, SetExpr, Branch, Select, Statement, insert, insert_select, update, delete, read, width_of, set_for, is_countable, is_there, is_column, joined_width, expr_fits, cond_fits, optional_cond_fits, row_fits, set_fits, branch_fits, branches_fit, select_width, select_fits, statement_fits, Query, branch_of, cased, made_of, made_onto, query_of, rewritten, selected_by, updated_from, product_onto, union_onto, IsU32, HasFewTables, StatementIsSmall, left_true, right_true}
+use Rattle.gp_grammar.specs.declared.limits.TheConstants.{MAX_FROM}
 use Rattle.gp_algebra.specs.AnnotatedQueries as q
-use Rattle.gp_algebra.specs.AnnotatedQueries.{Query}
-use Rattle.gp_rewrite.specs.Rewriting.{branch_of, cased, made_of, made_onto, product_of, query_of, rewritten, selected_by, updated_from}
-use Rattle.gp_rewrite.specs.RewritingForms.{product_onto, union_onto}
-use Rattle.gp_explain.specs.Numbers.{IsU32}
-use Rattle.gp_explain.specs.SmallLogs.{HasFewTables, StatementIsSmall}
+use Rattle.gp_rewrite.specs.Rewriting.{product_of}
 use Rattle.gp_explain.proofs.PlainRanges.{AnnotatedInRange, IsNarrow, reach, reach-append, widths}
 use Rattle.gp_explain.proofs.SubstitutionRanges.{IsFree, CondIsFree, all_free, chosen_range, fit_free, fit_cond_free, users_range}
-use Rattle.gp_base.proofs.SmallLemmas.{left_true, right_true}
 
 -- ---- the columns of an UPDATE
 

@@ -1,26 +1,8 @@
 -- Rewritten statements and queries are shaped, if they fit the catalogue and the queries of its tables are.
-use Rattle.std.proofs.Common.{◌≡◌, ◌<◌, ℕ, zero, suc, Bool, true, false, cond, List, [], ◌∷◌, length, refl, subst, arith, Option, Some, None}
-use Rattle.std.specs.Prelude.{◌&&◌, ◌==◌, ◌^◌, nat_lt, nat_le}
-use Rattle.std.specs.List.{list_all}
-use Rattle.std.proofs.lemmas.Bool.{false≢true, and_from}
-use Rattle.std.proofs.lemmas.Bool.Decides.{nat_tests}
-use Rattle.gp_base.specs.declared.cell.Cell.{Cell}
-use Rattle.gp_base.specs.declared.table.Table.{Table}
-use Rattle.gp_base.specs.UserCells.{is_user_cell}
-use Rattle.gp_expr.specs.Expressions.{Expr, Cond}
-use Rattle.gp_algebra.specs.Statements.{SetExpr, Branch, Select, Statement, insert, insert_select, update, delete, read, target}
-use Rattle.gp_algebra.specs.Effects.{set_for}
-use Rattle.gp_algebra.specs.Fitting.{is_countable, is_there, is_column, joined_width, expr_fits, cond_fits, optional_cond_fits, row_fits, set_fits, branch_fits, branches_fit, select_width, select_fits, statement_fits}
-use Rattle.gp_algebra.specs.Statements.{width_of}
+use Rattle.gp_explain.proofs.Prelude.{◌≡◌, ◌<◌, ℕ, zero, suc, Bool, true, false, cond, List, [], ◌∷◌, length, refl, subst, arith, Option, Some, None, ◌&&◌, ◌==◌, ◌^◌, nat_lt, nat_le, list_all, false≢true, and_from, nat_tests, Cell, Table, is_user_cell, Expr, Cond, SetExpr, Branch, Select, Statement, insert, insert_select, update, delete, read, target, set_for, is_countable, is_there, is_column, joined_width, expr_fits, cond_fits, optional_cond_fits, row_fits, set_fits, branch_fits, branches_fit, select_width, select_fits, statement_fits, width_of, Query, has_item, branch_of, cased, made_of, made_onto, query_of, rewritten, selected_by, updated_from, product_onto, union_onto, cell_is_shaped, expr_is_shaped, cond_is_shaped, annotated_is_shaped, has_tables, has_sources, all_weaker, left_true, right_true, none-some}
 use Rattle.gp_algebra.specs.AnnotatedQueries as q
-use Rattle.gp_algebra.specs.AnnotatedQueries.{Query}
-use Rattle.gp_plantext.specs.Spellable.{has_item}
-use Rattle.gp_rewrite.specs.Rewriting.{branch_of, cased, made_of, made_onto, product_of, query_of, rewritten, selected_by, updated_from}
-use Rattle.gp_rewrite.specs.RewritingForms.{product_onto, union_onto}
-use Rattle.gp_explain.specs.Shapes.{cell_is_shaped, expr_is_shaped, cond_is_shaped, annotated_is_shaped, has_tables, has_sources}
+use Rattle.gp_rewrite.specs.Rewriting.{product_of}
 use Rattle.gp_explain.proofs.FittingShapes.{user_cells, fit_shaped, fit_cond_shaped}
-use Rattle.gp_base.proofs.SmallLemmas.{all_weaker, left_true, right_true}
-use Rattle.std.proofs.lemmas.Option.{none-some}
 
 some_item : {X : Type 0} (xs : List X) → nat_lt 0 (length xs) ≡ true → has_item xs ≡ true
 some_item [] so = so

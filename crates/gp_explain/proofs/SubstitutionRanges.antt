@@ -1,21 +1,11 @@
 -- Expressions that are put into the places of columns leave an expression in range, if they and it are.
-use Rattle.std.proofs.Common.{◌≡◌, ◌<◌, ◌≤◌, ◌^◌, ℕ, zero, suc, Bool, true, List, [], ◌∷◌, ℤ, pos, negsuc, get_or, FitsSigned, leb, arith}
-use Rattle.std.specs.Prelude.{◌&&◌, ◌-◌}
+use Rattle.gp_explain.proofs.Prelude.{◌≡◌, ◌<◌, ◌≤◌, ℕ, zero, suc, Bool, true, List, [], ◌∷◌, get_or, arith, ◌&&◌, AllByRecursion, list_all, and_parts, false≢true, leb-true, ltb-true, Cell, IsInRange, AreInRange, is_user_cell, Expr, Cond, Parts, is_simple, cond_is_simple, all_leaves, cond_all_leaves, chosen, substituted, substituted_cond, substituted_parts, substituted_each, is_column, expr_fits, cond_fits, ExprInRange, CondInRange, PartsInRange, left_true, right_true}
+use Rattle.std.proofs.Common.{◌^◌, ℤ, pos, negsuc, FitsSigned, leb}
+use Rattle.std.specs.Prelude.{◌-◌}
 use Rattle.std.specs.Int.{w64}
-use Rattle.std.specs.List.{AllByRecursion, list_all}
-use Rattle.std.proofs.lemmas.Bool.{and_parts, false≢true, leb-true, ltb-true}
-use Rattle.gp_base.specs.declared.cell.Cell.{Cell}
 use Rattle.gp_base.specs.declared.cell.Cell.TheVariants as cell
-use Rattle.gp_base.specs.CellForms.{IsInRange, AreInRange}
 use Rattle.gp_base.specs.Cells.{fits_number}
-use Rattle.gp_base.specs.UserCells.{is_user_cell}
 use Rattle.gp_expr.specs.Expressions as e
-use Rattle.gp_expr.specs.Expressions.{Expr, Cond, Parts}
-use Rattle.gp_expr.specs.ExpressionForms.{is_simple, cond_is_simple, all_leaves, cond_all_leaves}
-use Rattle.gp_expr.specs.Substitution.{chosen, substituted, substituted_cond, substituted_parts, substituted_each}
-use Rattle.gp_algebra.specs.Fitting.{is_column, expr_fits, cond_fits}
-use Rattle.gp_explain.specs.Numbers.{ExprInRange, CondInRange, PartsInRange}
-use Rattle.gp_base.proofs.SmallLemmas.{left_true, right_true}
 
 -- ---- cells that a user can write
 

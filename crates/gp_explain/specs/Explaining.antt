@@ -5,10 +5,10 @@ use Rattle.gp_base.specs.declared.refusal.Refusal.{Refusal}
 use Rattle.gp_base.specs.declared.table.Table.{Table}
 use Rattle.gp_algebra.specs.Plain.{PlainProgram}
 use Rattle.gp_plantext.specs.Spelling.{Spells}
-use Rattle.gp_reenact.specs.declared.error.ReenactStop.{ReenactStop}
-use Rattle.gp_reenact.specs.declared.error.ReenactStop.TheVariants.{Refused, NoMemory}
+use Rattle.gp_base.specs.declared.stop.Stop.{Stop}
+use Rattle.gp_base.specs.declared.stop.Stop.TheVariants.{Refused, NoMemory}
 
-abbrev pub ExplainsBy : {X : Type 0} → (X → List ℕ) → Result X ReenactStop → Option Refusal → List Table → PlainProgram → Type 0
+abbrev pub ExplainsBy : {X : Type 0} → (X → List ℕ) → Result X Stop → Option Refusal → List Table → PlainProgram → Type 0
 ExplainsBy view (Ok text) expected tables program = (expected ≡ None) × Spells tables program (view text)
 ExplainsBy view (Err (Refused refusal)) expected tables program = expected ≡ Some refusal
 ExplainsBy view (Err NoMemory) expected tables program = Unit {0}

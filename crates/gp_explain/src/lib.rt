@@ -22,4 +22,4 @@ pub use laws::{
     texts_explain_states,
 };
 pub use lines::explained_lines;
-pub use text::explain;
+pub use text::{explain, explain_saw};

@@ -1,9 +1,9 @@
 -- What becomes of a table, from the rows that its program gave.
-use Rattle.std.proofs.Common.{◌≡◌, ℕ, zero, suc, ◌<◌, ◌==◌, Bool, true, false, List, refl, sym, ap, ◌∙◌, Option, None, Result, Ok, Err}
+use Rattle.std.proofs.Common.{◌≡◌, ℕ, zero, suc, ◌<◌, ◌==◌, true, false, List, sym, ap, ◌∙◌, Option, None, Result, Ok, Err}
 use Rattle.std.specs.BTreeMap.{BTreeMap}
 use Rattle.std.specs.List.{list_any}
 use Rattle.std.specs.Prelude.{◌&&◌, not}
-use Rattle.std.proofs.lemmas.Bool.{and_parts, false≢true}
+use Rattle.std.proofs.lemmas.Bool.{and_parts}
 use Rattle.gp_algebra.specs.AnnotatedQueries as q
 use Rattle.gp_algebra.specs.Statements.{width_of}
 use Rattle.gp_base.specs.declared.limit.TheConstants.{MAX_TABLE_ROWS}
@@ -31,10 +31,7 @@ use Rattle.gp_history.proofs.ImageLemmas.{scan_is}
 use Rattle.gp_history.proofs.MakerLemmas.{maker_positive, maker_version}
 use Rattle.gp_history.proofs.NarrowedChange.{narrow_change}
 use Rattle.gp_history.proofs.NarrowingLemmas.{all_leave, all_room, begun_away, few_fit, finds_all, kept, kept_unmarked, narrows, not_own, stays, touched_all}
-
-not_true : (b : Bool) → not b ≡ true → b ≡ false
-not_true true e = absurd (false≢true e)
-not_true false e = refl
+use Rattle.gp_history.proofs.NarrowLemmas.{not_false}
 
 -- the program that the log asks for is the one of the commit that makes the version
 module _ (entries : List Entry) (versions : List Versions) (sound : IsSound entries versions) (before : ℕ) (within : before < versions_in entries) (table : ℕ) where
@@ -83,7 +80,7 @@ module _ {M : Type 0} (domain : Annotations M) (image : IsImage domain) (entries
     kept_few same =
         let parts = and_parts (is_scan (maker_program entries before table).last) (not (list_any (is_touched (suc before)) (narrow_spans narrowed table))) same in
         kept_change parts.0
-        (sym (touched_all domain log (maker log before) before spans apart whole known are narrowed narrow table) ∙ not_true (list_any (is_touched (suc before)) (narrow_spans narrowed table)) parts.1)
+        (sym (touched_all domain log (maker log before) before spans apart whole known are narrowed narrow table) ∙ not_false (list_any (is_touched (suc before)) (narrow_spans narrowed table)) parts.1)
 
     -- the rows of its program over these, looked at
     pub few_change : {X : Type 0} (view : X → List (Annotated M)) (found : X) → Publishes domain log spans before (narrow_spans narrowed) narrowed.most view table (Ok found)

@@ -132,7 +132,7 @@ difference_first domain catalogue version count (suc n) db other less same not =
 -- ---- lists
 
 -- an item of a list with one more behind
-pushed : {X : Type 0} (xs : List X) (x : X) (k n : ℕ) (y : X) → length xs ≡ n → slice_get (xs ++ x ∷ []) k ≡ Some y → (slice_get xs k ≡ Some y) ⊎ ((k ≡ n) × (x ≡ y))
+pub pushed : {X : Type 0} (xs : List X) (x : X) (k n : ℕ) (y : X) → length xs ≡ n → slice_get (xs ++ x ∷ []) k ≡ Some y → (slice_get xs k ≡ Some y) ⊎ ((k ≡ n) × (x ≡ y))
 pushed [] x zero n y count is = inr (count, cc)
 pushed [] x (suc k) n y count is = absurd (cc)
 pushed (z ∷ xs) x zero n y count is = inl is
@@ -245,9 +245,6 @@ module _ {M : Type 0} (domain : Annotations M) (entries : List Entry) (spans : �
     pub each : (table : ℕ) (change : Option (BTreeMap Identity M)) → slice_get changes table ≡ Some change → IsChange domain log (maker log before) (suc before) table (spans table) (made domain log spans before table) change
     pub same : differs count ≡ None
     pub stop : (maker_stop domain log spans before ≡ None) ⊎ ((table : ℕ) → table < count → last_write log (maker log before) (log.statement_count (maker log before)) table ≡ None)
-
-  pub partly_none : Partly zero []
-  partly_none = record { many = refl; each = λ table change is. absurd (cc); same = refl; stop = inr (λ table less. absurd (omega arith)) }
 
   module _ (image : IsImage domain) (fit : statements_fit (tables_in entries) entries ≡ true) (spans_fit : SpansFit (tables_in entries) spans) where
     -- a table that is kept agrees

@@ -44,12 +44,3 @@ module _ {M : Type 0} where
           whole (get identity_cmp old other) true
           (λ yes. ap (λ (key : Identity). is_some (get identity_cmp old key)) (sym (identity_cmp-exact id other (equal_from_is_eq (identity_cmp id other) is))) ∙ some)
       by false is = whole (get identity_cmp old other) false (λ no. absurd (true≢false (sym no)))
-
-  -- a row without an identity or an annotation adds none
-  pub no_more : (o : Option M) → option_or o None ≡ o
-  no_more None = refl
-  no_more (Some m) = refl
-
-  pub first_then : (a b c : Option M) → option_or (option_or a b) c ≡ option_or a (option_or b c)
-  first_then None b c = refl
-  first_then (Some m) b c = refl

@@ -9,7 +9,7 @@ use Rattle.gp_base.specs.declared.token.Token.{Token}
 use Rattle.gp_base.specs.Annotated.{Annotated, Annotations, Environment}
 use Rattle.gp_algebra.specs.AnnotatedMeaning as qm
 use Rattle.gp_algebra.specs.AnnotatedQueries.{Program, Query}
-use Rattle.gp_algebra.specs.AnnotatedMeaning.{Derived, scanned}
+use Rattle.gp_algebra.specs.AnnotatedMeaning.{scanned}
 use Rattle.gp_algebra.specs.Statements.{width_of}
 use Rattle.gp_algebra.specs.Plain.{no_steps}
 use Rattle.gp_algebra.specs.Reannotation.{reannotated}

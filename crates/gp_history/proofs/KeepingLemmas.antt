@@ -1,5 +1,5 @@
 -- Annotations that are kept: where nothing stops before a version, nothing stops before an earlier one.
-use Rattle.std.proofs.Common.{◌≡◌, inl, inr, ℕ, zero, suc, ◌<◌, ◌≤◌, ◌⊎◌, List, refl, sym, subst, arith, Option, Some, None, Result, Ok, Err}
+use Rattle.std.proofs.Common.{◌≡◌, inl, inr, ℕ, zero, suc, ◌<◌, ◌≤◌, ◌⊎◌, List, refl, sym, subst, arith, Option, Some, None, Err}
 use Rattle.std.specs.Option.{option_or}
 use Rattle.std.proofs.Math.Nat.{eq-or-lt_of_le}
 use Rattle.gp_base.specs.declared.refusal.Refusal.{Refusal}
@@ -12,19 +12,16 @@ use Rattle.gp_log.specs.Parameters.{parameters}
 use Rattle.gp_machine.specs.Entries.{Entry, Log, log_of, versions_in}
 use Rattle.gp_machine.specs.Event.{name_at}
 use Rattle.gp_machine.specs.Questions.{annotation_stop}
-use Rattle.gp_reenact.specs.Reenacting.{spans_of}
 use Rattle.gp_versions.specs.declared.span.Span.{Span}
-use Rattle.gp_versions.specs.Spans.{Versions}
 use Rattle.gp_history.specs.Agreement.{agree}
 use Rattle.gp_history.specs.Annotating.{Annotates}
-use Rattle.gp_history.specs.Changes.{commit_stop, ones}
+use Rattle.gp_history.specs.Changes.{commit_stop}
 use Rattle.gp_history.specs.Keeping.{GoesOn, IsKept, Reaches}
 use Rattle.gp_history.specs.SpanAnnotations.{AreAnnotated}
 use Rattle.gp_history.specs.declared.error.HistoryStop.{HistoryStop}
 use Rattle.gp_history.specs.declared.error.HistoryStop.TheVariants as stops
 use Rattle.gp_history.specs.declared.kept.Kept.{Kept}
 use Rattle.gp_history.proofs.CommitLemmas.{stop_none_more}
-use Rattle.gp_history.proofs.StartLemmas.{none_annotated}
 
 first_none : {A : Type 0} (o p : Option A) → option_or o p ≡ None → o ≡ None
 first_none None p e = refl
@@ -88,14 +85,3 @@ module _ {M : Type 0} (domain : Annotations M) (entries : List Entry) (spans : �
   kept_stops P Q kept v (stops.Rows t k) less told = some_after domain (tables_in entries) (log_of entries) spans (suc kept.version) v (E25 t k) (omega (arith, less)) told
   kept_stops P Q kept v (stops.Ancestry t k) less told = some_after domain (tables_in entries) (log_of entries) spans (suc kept.version) v (E26 t k) (omega (arith, less)) told
   kept_stops P Q kept v stops.NoMemory less told = tt
-
--- annotations of no version are kept
-pub kept_begun : {M : Type 0} (domain : Annotations M) (entries : List Entry) (versions : List Versions) (kept : Kept M) → kept.version ≡ zero → kept.annotated ≡ ones domain.one versions
-    → IsKept domain entries (spans_of versions) kept
-kept_begun domain entries versions kept first is = record {
-  within = omega (arith, first);
-  annotated =
-      subst (λ (n : ℕ). AreAnnotated domain (log_of entries) (spans_of versions) n kept.annotated) (sym first)
-      (subst (λ (all : List (List _)). AreAnnotated domain (log_of entries) (spans_of versions) zero all) (sym is) (none_annotated domain (log_of entries) versions));
-  unstopped = subst (λ (n : ℕ). annotation_stop domain parameters agree (tables_in entries) (log_of entries) (spans_of versions) n ≡ None) (sym first) refl;
-}

@@ -1,8 +1,8 @@
-mod AgreementLemmas
+pub mod AgreementLemmas
 mod AnnotatedScans
 mod Cancelling
 mod ChangeLemmas
-mod CommitLemmas
+pub mod CommitLemmas
 mod DecodedLemmas
 mod ElementLemmas
 mod FoundLemmas
@@ -11,9 +11,9 @@ mod ImageLemmas
 mod KeepingLemmas
 mod MakerLemmas
 mod MatchingLemmas
-mod NarrowLemmas
+pub mod NarrowLemmas
 mod NarrowedChange
-mod NarrowingLemmas
+pub mod NarrowingLemmas
 mod NarrowedLemmas
 mod NotedLemmas
 mod ProvenanceLemmas

@@ -6,7 +6,7 @@ use Rattle.std.proofs.lemmas.Bool.{and_parts, false≢true, or_left, or_right}
 use Rattle.std.proofs.lemmas.Bool.Decides.{nat_tests}
 use Rattle.std.proofs.lemmas.List.Elements.{All-contains}
 use Rattle.std.proofs.lemmas.List.Sums.{AllPass-from_list_all}
-use Rattle.std.proofs.lemmas.List.{append-nil, append_assoc, drop_more}
+use Rattle.std.proofs.lemmas.List.{append_assoc, drop_more}
 use Rattle.gp_base.specs.declared.limit.TheConstants.{MAX_TABLE_ROWS}
 use Rattle.gp_base.specs.declared.table.Table.{Table}
 use Rattle.gp_base.specs.UserCells.{is_user_cell}
@@ -25,20 +25,10 @@ use Rattle.gp_history.specs.SpanAnnotations.{span_rows, versions_with}
 use Rattle.gp_history.specs.declared.narrowed.Narrowed.{Narrowed}
 use Rattle.gp_history.specs.declared.narrowed.Part.{Part}
 use Rattle.gp_history.specs.declared.narrowed.Reach.{Reach}
+use Rattle.gp_history.proofs.CommitLemmas.{pushed}
+use Rattle.gp_history.proofs.NarrowLemmas.{not_false}
 
 -- ---- lists
-
--- an item of a list with one more behind
-pushed : {X : Type 0} (xs : List X) (x : X) (k n : ℕ) (y : X) → length xs ≡ n → slice_get (xs ++ x ∷ []) k ≡ Some y → (slice_get xs k ≡ Some y) ⊎ ((k ≡ n) × (x ≡ y))
-pushed [] x zero n y count is = inr (count, cc)
-pushed [] x (suc k) n y count is = absurd (cc)
-pushed (z ∷ xs) x zero n y count is = inl is
-pushed (z ∷ xs) x (suc k) zero y count is = absurd (omega arith)
-pushed (z ∷ xs) x (suc k) (suc n) y count is = by (pushed xs x k n y (omega arith) is)
-  where
-    by : (slice_get xs k ≡ Some y) ⊎ ((k ≡ n) × (x ≡ y)) → (slice_get (z ∷ xs) (suc k) ≡ Some y) ⊎ ((suc k ≡ suc n) × (x ≡ y))
-    by (inl here) = inl here
-    by (inr last) = inr (ap suc last.0, last.1)
 
 -- a test of all passes for each
 all_at : {X : Type 0} (p : X → Bool) (xs : List X) (x : X) → list_all p xs ≡ true → Contains xs x → p x ≡ true
@@ -89,10 +79,6 @@ held_each reach v span between held =
     ends_after None e = refl
     ends_after (Some to) e = grind (arith, nat_tests, between.1)
 
-not_true : (b : Bool) → not b ≡ true → b ≡ false
-not_true true e = absurd (false≢true e)
-not_true false e = refl
-
 -- ---- spans that are looked at one after another
 
 module _ {M : Type 0} (meets stays : Span → Bool) (spans : List Span) (annotations : List M) where
@@ -104,26 +90,6 @@ module _ {M : Type 0} (meets stays : Span → Bool) (spans : List Span) (annotat
     pub spans_go : part_spans part ++ filter is_left rest ≡ filter is_left spans
     pub annotations_go : part_annotations part ++ chosen_with is_left rest others ≡ chosen_with is_left spans annotations
     pub count_goes : part.left_out + length (filter stays rest) ≡ length (filter stays spans)
-
-  pub goes_first : (part : Part M) → part_spans part ≡ [] → part_annotations part ≡ [] → part.left_out ≡ 0 → Goes part spans annotations
-  goes_first part no_spans no_annotations none = record {
-    spans_go = ap (λ (all : List Span). all ++ filter is_left spans) no_spans;
-    annotations_go = ap (λ (all : List M). all ++ chosen_with is_left spans annotations) no_annotations;
-    count_goes = counted (length (filter stays spans));
-  }
-    where
-      counted : (count : ℕ) → part.left_out + count ≡ count
-      counted count = omega (arith, none)
-
-  pub goes_all : (part : Part M) (others : List M) → Goes part [] others → IsLeft meets stays spans annotations part
-  goes_all part others goes = record {
-    spans_are = sym (append-nil (part_spans part)) ∙ goes.spans_go;
-    annotations_are = sym (append-nil (part_annotations part)) ∙ goes.annotations_go;
-    count = count_is part.left_out goes.count_goes;
-  }
-    where
-      count_is : (n : ℕ) → n + 0 ≡ length (filter stays spans) → n ≡ length (filter stays spans)
-      count_is n e = omega (arith, e)
 
   -- one more
   pub goes_on : (part next : Part M) (span : Span) (rest : List Span) (annotation : M) (others : List M) → part_spans next ≡ part_spans part ++ only (is_left span) span
@@ -208,7 +174,7 @@ module _ {M : Type 0} (log : Log) (t before table : ℕ) (spans : List Span) (an
     stays = stays;
     met = λ v read span holds. meets_held reach v span (covers.all v read) holds;
     held = λ v read span is. held_each reach v span (covers.all v read) (parts span is).0;
-    foreign = λ span is. not_true (identity_transaction span.id == t) (others span is).0;
+    foreign = λ span is. not_false (identity_transaction span.id == t) (others span is).0;
     left_alone = λ span is k statement there. all_at (leaves table span.row) statements statement (others span is).1 (found k statement there);
     room = λ k statement there into. subst (λ (count : ℕ). most + count ≤ MAX_TABLE_ROWS) by.left.count (room (any_at (inserts_into table) statements statement (found k statement there) into));
     spans_are = by.left.spans_are;
@@ -272,9 +238,6 @@ module _ {M : Type 0} (log : Log) (t before : ℕ) (spans : ℕ → List Span) (
     pub each : (table : ℕ) (part : Part M) → slice_get parts table ≡ Some part
         → IsPart log t before most table (spans table) (slice_index_or known table []) (part_spans part) (part_annotations part)
 
-  pub partly_none : ArePartly zero MAX_TABLE_ROWS []
-  partly_none = record { many = refl; within = omega arith; each = λ table part is. absurd (cc) }
-
   -- one more
   pub partly_more : (count most less : ℕ) (parts : List (Part M)) (part : Part M) → less ≤ most
       → IsPart log t before less count (spans count) (slice_index_or known count []) (part_spans part) (part_annotations part)
@@ -313,9 +276,6 @@ module _ {M : Type 0} (spans : ℕ → List Span) (known : List (List M)) where
   pub record AreAll (count : ℕ) (parts : List (Part M)) : Type 0 where
     pub many : length parts ≡ count
     pub each : (table : ℕ) (part : Part M) → slice_get parts table ≡ Some part → (part_spans part ≡ spans table) × (part_annotations part ≡ slice_index_or known table [])
-
-  pub all_none : AreAll zero []
-  all_none = record { many = refl; each = λ table part is. absurd (cc) }
 
   pub all_more : (count : ℕ) (parts : List (Part M)) (part : Part M) → part_spans part ≡ spans count → part_annotations part ≡ slice_index_or known count [] → AreAll count parts → AreAll (suc count) (parts ++ part ∷ [])
   all_more count parts part of_spans of_annotations all = record {

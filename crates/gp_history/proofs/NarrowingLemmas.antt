@@ -11,7 +11,7 @@ use Rattle.gp_base.specs.declared.limit.TheConstants.{MAX_TABLE_ROWS}
 use Rattle.gp_base.specs.Annotated.{Annotated, Annotations, Environment}
 use Rattle.gp_base.specs.IdentityParts.{identity_transaction}
 use Rattle.gp_base.specs.Identities.{Identity, Sources, identity, identity_cmp, same_identity}
-use Rattle.gp_base.proofs.SmallLemmas.{each_map, eq_itself, filter-map, filter_agree, length-map}
+use Rattle.gp_base.proofs.SmallLemmas.{each_map, eq_itself, filter-map, length-map}
 use Rattle.gp_expr.specs.Expressions.{Cond}
 use Rattle.gp_expr.specs.Values.{passes}
 use Rattle.gp_algebra.specs.Statements.{Branch, Select, Statement, delete, insert, insert_select, read, update}
@@ -27,7 +27,8 @@ use Rattle.gp_history.specs.Changes.{Finds, ends_at, is_touched}
 use Rattle.gp_history.specs.Narrowing.{IsNarrow, IsPart, IsRead, at_end, chosen_with, inserts_into, is_among, is_refused, leaves, narrow_annotations, narrow_spans, narrow_versions, of_commit, skips}
 use Rattle.gp_history.specs.SpanAnnotations.{AreAnnotated, span_row, span_rows}
 use Rattle.gp_history.specs.declared.narrowed.Narrowed.{Narrowed}
-use Rattle.gp_history.proofs.NarrowLemmas.{ArePassedOver, AreUnmarked, HasRoom, Leaves, Narrows, Skips, SkipsOne}
+use Rattle.gp_history.proofs.NarrowLemmas.{ArePassedOver, AreUnmarked, HasRoom, Leaves, Narrows, Skips, SkipsOne, not_false}
+use Rattle.gp_kexec.proofs.DeletionLemmas.{filter_crossed}
 
 -- ---- lists
 
@@ -39,15 +40,6 @@ each_unfiltered P p (x ∷ xs) all =
       | true ↦ λ is all. (λ passes. all.0, each_unfiltered P p xs all.1)
       | false ↦ λ is all. (λ passes. absurd (false≢true (sym is ∙ passes)), each_unfiltered P p xs all)
     ] refl all
-
-filter_swap : {X : Type 0} (p q : X → Bool) (xs : List X) → filter p (filter q xs) ≡ filter q (filter p xs)
-filter_swap p q xs = filter-filter p q xs ∙ filter_agree (λ x. q x && p x) (λ x. p x && q x) (λ x. swap (q x) (p x)) xs ∙ sym (filter-filter q p xs)
-  where
-    swap : (a b : Bool) → (a && b) ≡ (b && a)
-    swap true true = refl
-    swap true false = refl
-    swap false true = refl
-    swap false false = refl
 
 -- a test finds the same among those that pass another one, if it finds only such
 any_passing : {X : Type 0} (p q : X → Bool) (xs : List X) → AllByRecursion (λ x. p x ≡ true → q x ≡ true) xs → list_any p (filter q xs) ≡ list_any p xs
@@ -65,10 +57,6 @@ any_passing p q (x ∷ xs) all =
 is_false : (b : Bool) → (b ≡ true → ⊥) → b ≡ false
 is_false true out = absurd (out refl)
 is_false false out = refl
-
-not_true : (b : Bool) → not b ≡ true → b ≡ false
-not_true true e = absurd (false≢true e)
-not_true false e = refl
 
 -- where all that pass are ruled out, nothing passes
 passing_none : {X : Type 0} (p : X → Bool) (xs : List X) → ((x : X) → p x ≡ true → ⊥) → filter p xs ≡ []
@@ -157,7 +145,7 @@ module _ {M : Type 0} (log : Log) (t before most table : ℕ) (spans : List Span
     -- so the spans that are left are those of the rows that do not stay
     pub left_at : spans_at v few ≡ filter (λ (span : Span). not (row_stays span.id)) (spans_at v spans)
     left_at =
-        ap (spans_at v) part.spans_are ∙ filter_swap (holds_at v) is_left spans
+        ap (spans_at v) part.spans_are ∙ filter_crossed (holds_at v) is_left spans
         ∙ filter_each is_left (λ (span : Span). not (row_stays span.id)) (spans_at v spans)
         (each_both (λ (span : Span). is_left span ≡ not (row_stays span.id)) (λ (span : Span). row_stays span.id ≡ part.stays span) (λ (span : Span). holds_at v span ≡ true)
         (λ span same holds. (λ i. part.met v seen span holds i && not (sym same i)))
@@ -226,7 +214,7 @@ module _ {M : Type 0} (log : Log) (t before most table : ℕ) (spans : List Span
 
 -- ---- all tables
 
-rows_are : {M : Type 0} (version : ℕ) (f : Span → M) (spans : List Span) → span_rows version spans (map f spans) ≡ map (λ span. span_row (f span) span) (spans_at version spans)
+pub rows_are : {M : Type 0} (version : ℕ) (f : Span → M) (spans : List Span) → span_rows version spans (map f spans) ≡ map (λ span. span_row (f span) span) (spans_at version spans)
 rows_are version f [] = refl
 rows_are version f (span ∷ spans) =
     elim (holds_at version span) as (λ b. cond b (span_row (f span) span ∷ span_rows version spans (map f spans)) (span_rows version spans (map f spans)) ≡ map (λ span. span_row (f span) span) (cond b (span ∷ spans_at version spans) (spans_at version spans))) [
@@ -306,7 +294,7 @@ module _ {M : Type 0} (domain : Annotations M) (log : Log) (t before : ℕ) (spa
 
   written_over : (table : ℕ) (c : Cond) → ((span : Span) → (narrow table).stays span ≡ true → cond (table == table) (not (passes c span.row)) true ≡ true) → ArePassedOver c (kept table)
   written_over table c left =
-      kept_each table (λ cells. passes c cells ≡ false) (λ span is. not_true (passes c span.row) ((λ i. cond (sym (eq_itself table) i) (not (passes c span.row)) true) ∙ left span is))
+      kept_each table (λ cells. passes c cells ≡ false) (λ span is. not_false (passes c span.row) ((λ i. cond (sym (eq_itself table) i) (not (passes c span.row)) true) ∙ left span is))
 
   -- a table of a join has no row that stays, and neither has one that is read without a WHERE
   branch_skipped : (branch : Branch) → ((table : ℕ) (span : Span) → (narrow table).stays span ≡ true → skips table span.row branch ≡ true) → Skips kept branch
@@ -321,7 +309,7 @@ module _ {M : Type 0} (domain : Annotations M) (log : Log) (t before : ℕ) (spa
       by (table ∷ []) None skipped =
           inl (kept_none table (λ span is. false≢true ((λ i. cond (sym (among_first table []) i) false true) ∙ skipped table span is)), tt)
       by (table ∷ []) (Some c) skipped =
-          inr (kept_each table (λ cells. passes c cells ≡ false) (λ span is. not_true (passes c span.row) ((λ i. cond (sym (among_first table []) i) (not (passes c span.row)) true) ∙ skipped table span is)))
+          inr (kept_each table (λ cells. passes c cells ≡ false) (λ span is. not_false (passes c span.row) ((λ i. cond (sym (among_first table []) i) (not (passes c span.row)) true) ∙ skipped table span is)))
       by (table ∷ other ∷ tables) where_is skipped = inl (each (table ∷ other ∷ tables) (λ own there. there))
         where
           each : (some : List ℕ) → ((own : ℕ) → is_among own some ≡ true → is_among own (table ∷ other ∷ tables) ≡ true) → AllByRecursion (λ table. kept table ≡ []) some
@@ -350,10 +338,10 @@ module _ {M : Type 0} (domain : Annotations M) (log : Log) (t before : ℕ) (spa
   )
 
   statement_leaves : (statement : Statement) → ((table : ℕ) (span : Span) → (narrow table).stays span ≡ true → leaves table span.row statement ≡ true) → Leaves kept statement
-  statement_leaves (insert own rows) left = tt
-  statement_leaves (insert_select own select) left = select_skipped select left
-  statement_leaves (update own sets c) left = written_over own c (left own)
-  statement_leaves (delete own c) left = written_over own c (left own)
+  statement_leaves (insert written rows) left = tt
+  statement_leaves (insert_select written select) left = select_skipped select left
+  statement_leaves (update written sets c) left = written_over written c (left written)
+  statement_leaves (delete written c) left = written_over written c (left written)
   statement_leaves (read select) left = tt
 
   pub all_leave : (k : ℕ) (statement : Statement) → log.statement t k ≡ Some statement → Leaves kept statement
@@ -363,10 +351,10 @@ module _ {M : Type 0} (domain : Annotations M) (log : Log) (t before : ℕ) (spa
 
   statement_room : (statement : Statement) → ((table : ℕ) → inserts_into table statement ≡ true → narrowed.most + length (filter (narrow table).stays (spans table)) ≤ MAX_TABLE_ROWS)
       → HasRoom domain stays kept narrowed.most MAX_TABLE_ROWS statement
-  statement_room (insert own rows) room = subst (λ (count : ℕ). narrowed.most + count ≤ MAX_TABLE_ROWS) (sym (length-map (row_in own) (filter (narrow own).stays (spans own)))) (room own (eq_itself own))
-  statement_room (insert_select own select) room = subst (λ (count : ℕ). narrowed.most + count ≤ MAX_TABLE_ROWS) (sym (length-map (row_in own) (filter (narrow own).stays (spans own)))) (room own (eq_itself own))
-  statement_room (update own sets c) room = tt
-  statement_room (delete own c) room = tt
+  statement_room (insert written rows) room = subst (λ (count : ℕ). narrowed.most + count ≤ MAX_TABLE_ROWS) (sym (length-map (row_in written) (filter (narrow written).stays (spans written)))) (room written (eq_itself written))
+  statement_room (insert_select written select) room = subst (λ (count : ℕ). narrowed.most + count ≤ MAX_TABLE_ROWS) (sym (length-map (row_in written) (filter (narrow written).stays (spans written)))) (room written (eq_itself written))
+  statement_room (update written sets c) room = tt
+  statement_room (delete written c) room = tt
   statement_room (read select) room = tt
 
   pub all_room : (k : ℕ) (statement : Statement) → log.statement t k ≡ Some statement → HasRoom domain stays kept narrowed.most MAX_TABLE_ROWS statement

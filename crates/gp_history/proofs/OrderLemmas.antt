@@ -12,6 +12,7 @@ use Rattle.gp_machine.proofs.Distinct.{each_weaker}
 use Rattle.gp_semiring.specs.Witnesses.{placed}
 use Rattle.gp_history.specs.DistinctRows.{distinct_rows}
 use Rattle.gp_history.specs.AnswerForms.{AreAscending, occurs_in}
+use Rattle.gp_base.proofs.Bags.{or_swapped}
 
 -- ---- order
 
@@ -43,12 +44,6 @@ twice : (a b : Bool) → (a || b) ≡ (a || (a || b))
 twice true b = refl
 twice false b = refl
 
-turned : (a b c : Bool) → (a || (b || c)) ≡ (b || (a || c))
-turned true true c = refl
-turned true false c = refl
-turned false true c = refl
-turned false false c = refl
-
 placed_occurs : (sought row : List Cell) (rows : List (List Cell)) → occurs_in sought (placed row_cmp row rows) ≡ (eq_by_cmp row_cmp sought row || occurs_in sought rows)
 placed_occurs sought row [] = refl
 placed_occurs sought row (other ∷ others) =
@@ -57,7 +52,7 @@ placed_occurs sought row (other ∷ others) =
       | Less ↦ λ e. refl
       | Equal ↦ λ e. subst (λ own. (eq_by_cmp row_cmp sought other || occurs_in sought others) ≡ (eq_by_cmp row_cmp sought own || (eq_by_cmp row_cmp sought other || occurs_in sought others))) (sym (exact_rows row other e))
           (twice (eq_by_cmp row_cmp sought other) (occurs_in sought others))
-      | Greater ↦ λ e. ap (λ b. eq_by_cmp row_cmp sought other || b) (placed_occurs sought row others) ∙ turned (eq_by_cmp row_cmp sought other) (eq_by_cmp row_cmp sought row) (occurs_in sought others)
+      | Greater ↦ λ e. ap (λ b. eq_by_cmp row_cmp sought other || b) (placed_occurs sought row others) ∙ or_swapped (eq_by_cmp row_cmp sought other) (eq_by_cmp row_cmp sought row) (occurs_in sought others)
     ] refl
 
 pub distinct_members : (sought : List Cell) (rows : List (List Cell)) → occurs_in sought (distinct_rows rows) ≡ occurs_in sought rows

@@ -11,7 +11,7 @@ use Rattle.gp_base.specs.Tokens.{Monomial}
 use Rattle.gp_grammar.specs.Syntax as y
 use Rattle.gp_algebra.specs.AnnotatedQueries as q
 use Rattle.gp_algebra.specs.AnnotatedMeaning as qm
-use Rattle.gp_algebra.specs.AnnotatedQueries.{Change, Query, QueryStep}
+use Rattle.gp_algebra.specs.AnnotatedQueries.{Query, QueryStep}
 use Rattle.gp_algebra.specs.AnnotatedMeaning.{Derived}
 use Rattle.gp_algebra.specs.Answers.{Element, answer}
 use Rattle.gp_algebra.specs.Fitting.{select_fits}
@@ -48,9 +48,10 @@ use Rattle.gp_versions.specs.declared.span.Span.{Span}
 use Rattle.gp_versions.specs.Spans.{Versions, holds_at, is_before_end, spans_at}
 use Rattle.gp_history.specs.Agreement.{occurrence}
 use Rattle.gp_history.specs.Sound.{IsSound}
-use Rattle.gp_history.proofs.TableLemmas.{held_rows, monoid, none_marked, wide_rows}
+use Rattle.gp_history.proofs.TableLemmas.{held_rows, none_marked, wide_rows}
 use Rattle.gp_base.proofs.SmallLemmas.{map-map, not_eq}
 use Rattle.std.proofs.lemmas.Bool.{and_parts}
+use Rattle.gp_reenact.proofs.StepStops.{monoid}
 
 -- ---- versions that were computed stay
 

@@ -30,17 +30,16 @@ use Rattle.gp_log.specs.LogFacts.{tables_in}
 use Rattle.gp_machine.specs.Annotating.{annotated, computed}
 use Rattle.gp_machine.specs.Entries.{Began, Committed, Created, Ended, Entry, Ran, log_of, version_of, versions_in}
 use Rattle.gp_machine.specs.Points.{at_point, version_before}
-use Rattle.gp_machine.specs.Questions.{annotated_answer, annotation_stop, given, log_refusal, needed_version, own_stop}
+use Rattle.gp_machine.specs.Questions.{annotated_answer, annotation_stop, given, log_refusal, needed_version}
 use Rattle.gp_machine.proofs.LogLemmas.{versions_le}
 use Rattle.gp_prov.specs.Encoding.{encoded}
 use Rattle.gp_prov.specs.ToPlain.{plain_program}
-use Rattle.gp_reenact.specs.declared.error.ReenactStop.{ReenactStop}
-use Rattle.gp_reenact.specs.declared.error.ReenactStop.TheVariants.{Refused, NoMemory}
+use Rattle.gp_base.specs.declared.stop.Stop.TheVariants.{NoMemory}
 use Rattle.gp_reenact.specs.Reenacting.{RunsOver, spans_of, stopped, transaction_at}
 use Rattle.gp_reenact.proofs.ReplayLemmas.{refusal_at}
 use Rattle.gp_versions.specs.Spans.{Versions}
 use Rattle.gp_history.specs.Agreement.{agree}
-use Rattle.gp_history.specs.Provenance.{AnnotatesOr, Proves}
+use Rattle.gp_history.specs.Provenance.{Proves}
 use Rattle.gp_history.specs.Agreement.{occurrence}
 use Rattle.gp_history.specs.Sound.{IsSound}
 use Rattle.gp_history.specs.SpanAnnotations.{AreAnnotated, versions_with}
@@ -61,7 +60,7 @@ answers_over view (Err (exec.Ancestry j)) scanned env program meant same_rows sa
 answers_over view (Err exec.Answer) scanned env program meant same_rows same_stop runs = (sym same_stop ∙ runs.0, subst (λ rows. MAX_ANSWER_ROWS < length rows) same_rows runs.1)
 answers_over view (Err exec.NoMemory) scanned env program meant same_rows same_stop runs = tt
 
--- the same over another environment
+-- a run is right over each environment in which its program has the same rows and the same stop
 pub moved_over : {X : Type 0} (view : X → List (List Cell)) (result : Result X ExecStop) (env other : PlainEnvironment) (program : PlainProgram)
     → program_meaning env program ≡ program_meaning other program → program_stop MAX_TABLE_ROWS MAX_NODES env program ≡ program_stop MAX_TABLE_ROWS MAX_NODES other program
     → RunsOver view result env program → RunsOver view result other program
@@ -97,23 +96,6 @@ needed_within entries (y.Point.commit t) known = made_within t entries
 
 -- ---- answers
 
--- a state that the log does not have
-pub log_refuses : {X : Type 0} (view : X → List (List Cell)) (entries : List Entry) (versions : List Versions) (select : Select) (point : y.Point) (refusal : Refusal) → log_refusal entries point ≡ Some refusal
-    → Proves view (Err (Refused refusal)) (annotated_answer monomials parameters agree (tables_in entries) entries (spans_of versions) point select)
-log_refuses view entries versions select point refusal is =
-    subst (λ (d : Result (List (Element Monomial)) Refusal). Proves view (Err (Refused refusal)) d) (sym (ap (λ o. given (option_or o rest) elements) is)) refl
-  where
-    all : Environment Monomial
-    all = annotated monomials (spans_of versions) (computed monomials (log_of entries) (spans_of versions) (versions_in entries))
-
-    elements : List (Element Monomial)
-    elements = answer monomials select (at_point monomials entries point all)
-
-    rest : Option Refusal
-    rest =
-        option_or (annotation_stop monomials parameters agree (tables_in entries) (log_of entries) (spans_of versions) (needed_version entries point))
-        (option_or (own_stop monomials parameters entries point all) (cond (nat_lt MAX_ANSWER_ROWS (length elements)) (Some E27) None))
-
 -- a program that gives the rows of an answer, and stops where its run does
 module _ {X : Type 0} (view : X → List (List Cell)) (entries : List Entry) (versions : List Versions) (sound : IsSound entries versions) (select : Select) (fits : select_fits (tables_in entries) select ≡ true)
     (point : y.Point) (known : log_refusal entries point ≡ None) where
@@ -135,22 +117,10 @@ module _ {X : Type 0} (view : X → List (List Cell)) (entries : List Entry) (ve
   abbrev annotation : Option Refusal
   annotation = annotation_stop monomials parameters agree (tables_in entries) (log_of entries) (spans_of versions) needed
 
-  due_first : (refusal : Refusal) → annotation ≡ Some refusal → expected ≡ Err refusal
-  due_first refusal is = λ i. given (option_or (known i) (option_or (is i) (option_or (own_stop monomials parameters entries point (past (versions_in entries))) (cond (nat_lt MAX_ANSWER_ROWS (length elements)) (Some E27) None)))) elements
-
   due_is : annotation ≡ None → (stop : Option Stop) → program_stop MAX_TABLE_ROWS MAX_NODES (encoded true (past (versions_in entries))) program ≡ stop → (over : Bool) → nat_lt MAX_ANSWER_ROWS (length elements) ≡ over
       → expected ≡ given (option_or (option_map (refusal_at (transaction_at point)) stop) (cond over (Some E27) None)) elements
   due_is none stop is over many =
       λ i. given (option_or (known i) (option_or (none i) (option_or ((stops entries versions sound select fits (versions_in entries) point known ∙ ap (option_map (refusal_at (transaction_at point))) is) i) (cond (many i) (Some E27) None)))) elements
-
-  pub annotation_refuses : (stop : ReenactStop) (refusal : Refusal) → stop ≡ Refused refusal → annotation ≡ Some refusal → Proves view (Err stop) expected
-  annotation_refuses stop refusal is first =
-      subst (λ (s : ReenactStop). Proves view (Err s) expected) (sym is) (subst (λ (d : Result (List (Element Monomial)) Refusal). Proves view (Err (Refused refusal)) d) (sym (due_first refusal first)) refl)
-
-  -- versions that cannot be annotated
-  pub annotated_err : {Y : Type 0} (P : Y → Type 0) (stop : ReenactStop) → AnnotatesOr P (Err stop) annotation → Proves view (Err stop) expected
-  annotated_err P (Refused refusal) told = annotation_refuses (Refused refusal) refusal refl told
-  annotated_err P NoMemory told = tt
 
   rows_given : program_meaning (encoded true (past (versions_in entries))) program ≡ map occurrence elements
   rows_given = gives entries versions sound select fits point known (versions_in entries)

@@ -1,5 +1,5 @@
 -- The statements of the transaction that made a version, and the versions that it read.
-use Rattle.std.proofs.Common.{◌≡◌, inl, inr, ℕ, zero, suc, ◌+◌, ◌<◌, ◌≤◌, ◌⊎◌, Bool, true, false, cond, List, [], ◌++◌, refl, sym, ap, ◌∙◌, subst, arith, Option, Some, None, Contains, length, nat_le, nat_lt, slice_get}
+use Rattle.std.proofs.Common.{◌≡◌, inl, inr, ℕ, zero, suc, ◌+◌, ◌<◌, ◌≤◌, ◌⊎◌, Bool, true, cond, List, [], ◌++◌, refl, sym, ap, ◌∙◌, subst, arith, Option, Some, None, Contains, length, nat_lt, slice_get}
 use Rattle.std.specs.Prelude.{◌&&◌, slice_index_or}
 use Rattle.std.specs.List.{list_all, list_any}
 use Rattle.std.proofs.lemmas.Bool.{le-leb}
@@ -7,7 +7,7 @@ use Rattle.std.proofs.lemmas.Bool.Decides.{nat_tests}
 use Rattle.std.proofs.lemmas.List.{get_or_past, get_or_read}
 use Rattle.std.proofs.lemmas.List.Elements.{Contains-append_left, Contains-push}
 use Rattle.std.proofs.lemmas.List.Folds.{list_all-append}
-use Rattle.std.proofs.lemmas.Option.{none-some, same_Some}
+use Rattle.std.proofs.lemmas.Option.{none-some}
 use Rattle.gp_base.specs.declared.limit.TheConstants.{MAX_TABLE_ROWS}
 use Rattle.gp_base.specs.declared.table.Table.{Table}
 use Rattle.gp_algebra.specs.Statements.{Statement}
@@ -31,13 +31,6 @@ use Rattle.gp_history.proofs.NarrowedLemmas.{fits_tests, part_from}
 use Rattle.gp_history.proofs.StartLemmas.{ended}
 
 -- ---- numbers
-
-pub numbered_is : {A : Type 0} (n count : ℕ) (value found : A) → numbered n count value ≡ Some found → found ≡ value
-numbered_is n count value found is = by (nat_lt 0 n && nat_le n count) is
-  where
-    by : (b : Bool) → cond b (Some value) None ≡ Some found → found ≡ value
-    by true is = sym (same_Some value found is)
-    by false is = absurd (none-some found is)
 
 -- the transaction that made a version has begun
 pub begun : {A : Type 0} (entries : List Entry) (t before : ℕ) (value : A) → KeepsSessions entries → before < versions_in entries → t ≡ maker (log_of entries) before → numbered t (transactions_in entries) value ≡ None → ⊥

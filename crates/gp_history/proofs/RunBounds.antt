@@ -28,7 +28,7 @@ AreWithin most db = (table : ℕ) → AllByRecursion (IsWithinNodes most) (db ta
 
 -- ---- runs
 
--- the same as for_each_node, for the tokens of the first statements, this many, of transaction t once more
+-- how often a token can occur in a row of a run: as in for_each_node, but those of the first statements, this many, of transaction t once more
 abbrev pub run_most : (ℕ → ℕ) → ℕ → ℕ → Token → ℕ
 run_most runs t k (Inserted u j n) = 1
 run_most runs t k (Queried u j) = 1

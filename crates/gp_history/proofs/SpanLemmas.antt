@@ -5,26 +5,18 @@ use Rattle.std.specs.BTreeMap.{BTreeMap, get}
 use Rattle.std.specs.List.{list_any}
 use Rattle.std.proofs.lemmas.Bool.Decides.{nat_tests}
 use Rattle.std.proofs.lemmas.List.{get_or_past}
-use Rattle.gp_base.specs.Annotated.{Annotated, Annotations}
+use Rattle.gp_base.specs.Annotated.{Annotations}
 use Rattle.gp_base.specs.Identities.{Identity, identity_cmp}
 use Rattle.gp_machine.specs.Annotating.{annotated, annotation_of, computed}
 use Rattle.gp_machine.specs.Entries.{Log}
 use Rattle.gp_versions.specs.declared.span.Span.{Span}
 use Rattle.gp_versions.specs.Spans.{holds_at, is_before_end, spans_at}
 use Rattle.gp_history.specs.Changes.{Finds, IsChange, ends_at, is_touched, made, changed_at, maker, renewed, renewed_at, renewed_by, renewed_span}
-use Rattle.gp_history.specs.SpanAnnotations.{AreAnnotated, span_row, span_rows, versions_with}
+use Rattle.gp_history.specs.SpanAnnotations.{AreAnnotated, span_rows, versions_with}
 use Rattle.std.proofs.lemmas.Bool.{eqb-true, or_parts}
-use Rattle.gp_base.proofs.SmallLemmas.{eq_not}
+use Rattle.gp_history.proofs.NarrowingLemmas.{rows_are}
 
 -- ---- the versions that annotated spans hold
-
-rows_are : {M : Type 0} (version : ℕ) (f : Span → M) (spans : List Span) → span_rows version spans (map f spans) ≡ map (λ span. span_row (f span) span) (spans_at version spans)
-rows_are version f [] = refl
-rows_are version f (span ∷ spans) =
-    elim (holds_at version span) as (λ b. cond b (span_row (f span) span ∷ span_rows version spans (map f spans)) (span_rows version spans (map f spans)) ≡ map (λ span. span_row (f span) span) (cond b (span ∷ spans_at version spans) (spans_at version spans))) [
-      | true ↦ ap (λ (rows : List (Annotated _)). span_row (f span) span ∷ rows) (rows_are version f spans)
-      | false ↦ rows_are version f spans
-    ]
 
 module _ {M : Type 0} (domain : Annotations M) (log : Log) (spans : ℕ → List Span) (version : ℕ) (annotations : List (List M)) (are : AreAnnotated domain log spans version annotations) where
   -- the versions of spans that were annotated are the annotated versions
@@ -87,15 +79,6 @@ module _ {M : Type 0} (one : M) where
 
 same_suc : (a b : ℕ) → (a == b) ≡ (suc a == suc b)
 same_suc a b = grind (arith, nat_tests)
-
--- the table at one place is renewed
-pub renewed_table : {M : Type 0} (old : List (List M)) (at table : ℕ) (new : List M) → at < length old
-    → get_or (set (set old at []) at new) table [] ≡ cond (table == at) new (get_or old table [])
-renewed_table [] at table new l = absurd (omega arith)
-renewed_table (first ∷ old) zero zero new l = refl
-renewed_table (first ∷ old) zero (suc table) new l = ap (λ b. cond b new (get_or old table [])) (sym (eq_not (suc table) zero (omega arith)))
-renewed_table (first ∷ old) (suc at) zero new l = ap (λ b. cond b new first) (sym (eq_not zero (suc at) (omega arith)))
-renewed_table (first ∷ old) (suc at) (suc table) new l = renewed_table old at table new (omega arith) ∙ ap (λ b. cond b new (get_or old table [])) (same_suc table at)
 
 pub renewed_nothing : {M : Type 0} (one : M) (version : ℕ) (found : BTreeMap Identity M) (spans : List Span) → renewed one version found spans [] ≡ []
 renewed_nothing one version found [] = refl

@@ -1,18 +1,14 @@
 -- Where annotating begins, and tables that are not there.
 use Rattle.std.proofs.Common.{◌≡◌, ℕ, zero, suc, ◌+◌, ◌<◌, ◌≤◌, List, [], ◌∷◌, ◌++◌, length, get_or, map, take, add-one, refl, sym, ap, arith, None}
 use Rattle.std.specs.Prelude.{slice_get}
-use Rattle.std.proofs.Math.ListN.{get_or-map}
 use Rattle.std.proofs.lemmas.List.{get_or_past}
-use Rattle.gp_base.specs.Annotated.{Annotations}
 use Rattle.gp_log.specs.LogFacts.{tables_in}
-use Rattle.gp_machine.specs.Entries.{Entry, Log}
+use Rattle.gp_machine.specs.Entries.{Entry}
 use Rattle.gp_reenact.specs.Reenacting.{spans_of}
 use Rattle.gp_reenact.specs.Travel.{no_table}
 use Rattle.gp_versions.specs.declared.span.Span.{Span}
 use Rattle.gp_versions.specs.Spans.{Versions}
-use Rattle.gp_history.specs.Changes.{ones}
 use Rattle.gp_history.specs.Sound.{IsSound}
-use Rattle.gp_history.specs.SpanAnnotations.{AreAnnotated}
 
 -- a table that is not in the log has no spans
 pub beyond : (entries : List Entry) (versions : List Versions) → IsSound entries versions → (table : ℕ) → length (tables_in entries) ≤ table → spans_of versions table ≡ []
@@ -24,10 +20,6 @@ pub ended : {X : Type 0} (xs : List X) (k : ℕ) → slice_get xs k ≡ None →
 ended [] k is = omega arith
 ended (x ∷ xs) zero is = absurd (cc)
 ended (x ∷ xs) (suc k) is = let rest = ended xs k is in omega (arith, rest)
-
--- before the first version each annotation is one
-pub none_annotated : {M : Type 0} (domain : Annotations M) (log : Log) (versions : List Versions) → AreAnnotated domain log (spans_of versions) zero (ones domain.one versions)
-none_annotated domain log versions = record { tables = λ table. get_or-map (λ (t : Versions). map (λ (span : Span). domain.one) t.spans) versions table no_table }
 
 -- one more item
 pub map_more : {X Y : Type 0} (f : X → Y) (xs : List X) (i : ℕ) (x : X) → i < length xs → x ≡ get_or xs i x → map f (take (i + 1) xs) ≡ map f (take i xs) ++ f x ∷ []

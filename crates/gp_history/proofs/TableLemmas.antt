@@ -8,10 +8,9 @@ use Rattle.gp_base.specs.declared.row_id.TheConstants.{MAX_NODES}
 use Rattle.gp_base.specs.declared.table.Table.{Table}
 use Rattle.gp_base.specs.Annotated.{Annotated, Annotations, Environment, monomials}
 use Rattle.gp_base.specs.Tokens.{Monomial}
-use Rattle.gp_base.proofs.ProductLaws.{times-associative, times-one}
 use Rattle.gp_algebra.specs.AnnotatedQueries as q
 use Rattle.gp_algebra.specs.AnnotatedMeaning as qm
-use Rattle.gp_algebra.specs.AnnotatedQueries.{Query, QueryStep}
+use Rattle.gp_algebra.specs.AnnotatedQueries.{QueryStep}
 use Rattle.gp_algebra.specs.Fitting.{is_there, statement_fits}
 use Rattle.gp_algebra.specs.Statements.{width_of}
 use Rattle.gp_algebra.specs.Plain as p
@@ -37,14 +36,12 @@ use Rattle.gp_prov.proofs.BuiltLemmas.{program_built}
 use Rattle.gp_prov.proofs.MeaningLemmas.{HaveWidths, rows_between, steps_are, tables_are}
 use Rattle.gp_reenact.proofs.HeldLemmas.{AreHeld, IsHeld}
 use Rattle.gp_reenact.proofs.StopLemmas.{gives_run, program_stops, scanned_once, step_stop}
-use Rattle.gp_rewrite.specs.Meaning.{AreAsWide, IsMonoid}
+use Rattle.gp_rewrite.specs.Meaning.{AreAsWide}
 use Rattle.gp_versions.specs.declared.span.Span.{Span}
 use Rattle.gp_versions.specs.Spans.{holds_at, spans_at}
 use Rattle.gp_history.specs.Changes.{limited_to}
 use Rattle.gp_base.proofs.SmallLemmas.{each_map, eq_itself, eq_turned}
-
-pub monoid : IsMonoid monomials
-monoid = record { right_one = times-one; associative = times-associative }
+use Rattle.gp_reenact.proofs.StepStops.{monoid}
 
 -- ---- annotated versions
 

@@ -38,15 +38,14 @@ use Rattle.gp_kexec.specs.Running.{IsSomeProgram}
 use Rattle.gp_log.specs.Parameters.{parameters}
 use Rattle.gp_log.specs.LogFacts.{tables_in}
 use Rattle.gp_log.specs.LogFitting.{SpanFits}
-use Rattle.gp_machine.specs.Annotating.{annotated_versions, computed}
+use Rattle.gp_machine.specs.Annotating.{computed}
 use Rattle.gp_machine.specs.QuestionForms.{identified}
 use Rattle.gp_machine.specs.Entries.{Entry, log_of, statement_count, versions_in}
 use Rattle.gp_machine.specs.Points.{at_point}
 use Rattle.gp_machine.specs.Questions.{annotation_stop, given, log_refusal, needed_version, own_stop}
 use Rattle.gp_machine.proofs.Distinct.{each_weaker}
 use Rattle.gp_machine.proofs.PointReannotation.{at_point_reannotated}
-use Rattle.gp_reenact.specs.declared.error.ReenactStop.{ReenactStop}
-use Rattle.gp_reenact.specs.declared.error.ReenactStop.TheVariants.{Refused, NoMemory}
+use Rattle.gp_base.specs.declared.stop.Stop.TheVariants.{NoMemory}
 use Rattle.gp_reenact.specs.Reenacting.{spans_of, stopped, transaction_at}
 use Rattle.gp_reenact.proofs.ReplayLemmas.{refusal_at, run_refused}
 use Rattle.gp_rewrite.specs.Meaning.{row_of_element, unmarked}
@@ -60,7 +59,6 @@ use Rattle.gp_versions.specs.declared.span.Span.{Span}
 use Rattle.gp_versions.specs.Spans.{Versions}
 use Rattle.gp_history.specs.Agreement.{agree, key_of, keys_agree}
 use Rattle.gp_history.specs.Images.{IsImage, monomials_are_images}
-use Rattle.gp_history.specs.Provenance.{AnnotatesOr}
 use Rattle.gp_history.specs.Running.{SumsOver}
 use Rattle.gp_history.specs.Scanning.{AgreesOn}
 use Rattle.gp_history.specs.Sound.{IsSound}
@@ -73,7 +71,6 @@ use Rattle.gp_history.proofs.AnnotatedScans.{program_meaning_agrees, program_sto
 use Rattle.gp_history.proofs.KeepingLemmas.{none_before}
 use Rattle.gp_history.proofs.ImageLemmas.{env, env_carried, meaning_carried, steps_stop_is, word_env, word_monoid}
 use Rattle.gp_history.proofs.ProvenanceLemmas.{rows_stay}
-use Rattle.gp_history.proofs.ProvingLemmas.{needed_within}
 use Rattle.gp_history.proofs.SpanLemmas.{versions_are}
 use Rattle.gp_history.proofs.TableLemmas.{none_marked, wide_rows}
 use Rattle.gp_base.proofs.SmallLemmas.{map-map}
@@ -201,11 +198,6 @@ module _ {K : Type 0} (domain : Annotations K) (image : IsImage domain) (plus : 
       λ i. of_sums (option_or (known i) (option_or ((stop_same domain image entries (spans_of versions) (needed_version entries point) ∙ first) i)
       ((stops domain image entries versions sound select point ∙ ap (option_map (refusal_at (transaction_at point))) is) i)))
 
-  -- versions that cannot be annotated
-  pub annotated_err : {X Y : Type 0} (view : X → List (List Cell × K)) (P : Y → Type 0) (stop : ReenactStop) → AnnotatesOr P (Err stop) refused → Gives {X = X} view (Err stop) wanted
-  annotated_err view P (Refused refusal) told = subst (λ (d : Result (List (List Cell × K)) Refusal). Gives view (Err (Refused refusal)) d) (sym (due_is (Some refusal) told _ refl)) refl
-  annotated_err view P NoMemory told = tt
-
   -- what a run over the needed versions gave, or over more of them, told over all
   over_all : {X : Type 0} (view : X → List (List Cell × K)) (kept : Kept K) → Reaches domain entries (spans_of versions) (needed_version entries point) kept
       → (result : Result X ExecStop) → SumsOver domain plus view result (versions_with (spans_of versions) kept.annotated) asked → SumsOver domain plus view result all asked
@@ -261,18 +253,3 @@ module _ {K : Type 0} (domain : Annotations K) (image : IsImage domain) (plus : 
             subst (λ (d : Result (List (List Cell × K)) Refusal). Gives view (Err (stopped (transaction_at point) exec.Answer)) d)
             (sym (due_is None unrefused None ran.0 ∙ (λ i. given (cond (many i) (Some E27) None) (sums_of plus chosen)))) refl
         by exec.NoMemory ran = tt
-
--- a state that the log does not have
-pub log_refuses : {K : Type 0} (domain : Annotations K) (plus : K → K → K) {X : Type 0} (view : X → List (List Cell × K)) (entries : List Entry) (versions : List Versions) (select : Select) (point : y.Point) (refusal : Refusal)
-    → log_refusal entries point ≡ Some refusal → Gives view (Err (Refused refusal)) (summed_answer parameters plus domain agree (tables_in entries) entries (spans_of versions) point select)
-log_refuses {K} domain plus view entries versions select point refusal is =
-    subst (λ (d : Result (List (List Cell × K)) Refusal). Gives view (Err (Refused refusal)) d)
-    (sym (ap (λ o. limited parameters.answer (sums_of plus) (given (option_or o rest) chosen)) is)) refl
-  where
-    rest : Option Refusal
-    rest =
-        option_or (annotation_stop domain parameters agree (tables_in entries) (log_of entries) (spans_of versions) (needed_version entries point))
-        (own_stop domain parameters entries point (annotated_versions domain entries (spans_of versions)))
-
-    chosen : List (Element K)
-    chosen = answer domain select (at_point domain entries point (annotated_versions domain entries (spans_of versions)))

@@ -104,7 +104,7 @@ module _ {M N : Type 0} (domain : Annotations M) (other : Annotations N) (h : M 
           ap (option_map stop_refusal) (run_stop_reannotated domain other h keeps (annotated_versions domain entries spans) (annotated_versions other entries spans) (versions_reannotated entries) parameters (log_of entries) t (statement_count t entries))
 
       module _ (entries : List Entry) (point : y.Point) where
-        -- the same refusal
+        -- a question is refused alike over both annotations
         pub refusal_reannotated : history_refusal other parameters alike catalogue entries spans point ≡ history_refusal domain parameters agree catalogue entries spans point
         refusal_reannotated =
             λ i. option_or (log_refusal entries point) (option_or (annotation_stop_reannotated (log_of entries) (needed_version entries point) i) (own_stop_reannotated entries point i))

@@ -14,7 +14,6 @@ use Rattle.gp_semiring.specs.Sums.{summed}
 use Rattle.gp_machine.specs.QuestionForms.{identified}
 use Rattle.gp_machine.specs.Entries.{Entry}
 use Rattle.gp_machine.specs.Parameters.{Parameters}
-use Rattle.gp_machine.specs.State.{State}
 use Rattle.gp_history.specs.ValueAnswers.{all_elements, limited}
 use Rattle.std.specs.List.{AllByRecursion, list_any}
 use Rattle.std.specs.Ordering.{eq_by_cmp}

@@ -38,25 +38,25 @@ abbrev pub skips : ℕ → List Cell → Branch → Bool
 skips table row branch = if is_among table branch.from then (length branch.from == 1) && is_refused branch.cond row else true
 
 abbrev pub leaves : ℕ → List Cell → Statement → Bool
-leaves table row (insert own rows) = true
-leaves table row (insert_select own select) = list_all (skips table row) select
-leaves table row (update own sets c) = if own == table then not (passes c row) else true
-leaves table row (delete own c) = if own == table then not (passes c row) else true
+leaves table row (insert written rows) = true
+leaves table row (insert_select written select) = list_all (skips table row) select
+leaves table row (update written sets c) = if written == table then not (passes c row) else true
+leaves table row (delete written c) = if written == table then not (passes c row) else true
 leaves table row (read select) = true
 
 -- the conditions that are tested are simple
 abbrev pub tests_are_simple : Statement → Bool
-tests_are_simple (insert own rows) = true
-tests_are_simple (insert_select own select) = select_is_simple select
-tests_are_simple (update own sets c) = cond_is_simple c
-tests_are_simple (delete own c) = cond_is_simple c
+tests_are_simple (insert written rows) = true
+tests_are_simple (insert_select written select) = select_is_simple select
+tests_are_simple (update written sets c) = cond_is_simple c
+tests_are_simple (delete written c) = cond_is_simple c
 tests_are_simple (read select) = true
 
 abbrev pub inserts_into : ℕ → Statement → Bool
-inserts_into table (insert own rows) = own == table
-inserts_into table (insert_select own select) = own == table
-inserts_into table (update own sets c) = false
-inserts_into table (delete own c) = false
+inserts_into table (insert written rows) = written == table
+inserts_into table (insert_select written select) = written == table
+inserts_into table (update written sets c) = false
+inserts_into table (delete written c) = false
 inserts_into table (read select) = false
 
 -- ---- statements that leave no row of a table as it is, whatever its cells are
@@ -70,10 +70,10 @@ abbrev pub takes : ℕ → Branch → Bool
 takes table branch = is_among table branch.from && (not (length branch.from == 1) || is_none branch.cond)
 
 abbrev pub sweeps : ℕ → Statement → Bool
-sweeps table (insert own rows) = false
-sweeps table (insert_select own select) = list_any (takes table) select
-sweeps table (update own sets c) = (own == table) && is_always c
-sweeps table (delete own c) = (own == table) && is_always c
+sweeps table (insert written rows) = false
+sweeps table (insert_select written select) = list_any (takes table) select
+sweeps table (update written sets c) = (written == table) && is_always c
+sweeps table (delete written c) = (written == table) && is_always c
 sweeps table (read select) = false
 
 -- ---- the statements of a transaction

@@ -1,13 +1,13 @@
--- Of the contract of `values`: what asking for values answers: what is due, or the refusal that is due. Running out of memory says nothing.
+-- Of the contract of `values_from`: what asking for values answers: what is due, or the refusal that is due. Running out of memory says nothing.
 use Rattle.std.specs.Prelude.{◌≡◌, ◌≤◌, length, Result, Ok, Err}
 use Rattle.std.specs.List.{AllByRecursion}
 use Rattle.gp_base.specs.declared.refusal.Refusal.{Refusal}
 use Rattle.gp_grammar.specs.declared.limits.TheConstants.{MAX_FROM}
 use Rattle.gp_algebra.specs.Statements.{Select}
-use Rattle.gp_reenact.specs.declared.error.ReenactStop.{ReenactStop}
-use Rattle.gp_reenact.specs.declared.error.ReenactStop.TheVariants.{Refused, NoMemory}
+use Rattle.gp_base.specs.declared.stop.Stop.{Stop}
+use Rattle.gp_base.specs.declared.stop.Stop.TheVariants.{Refused, NoMemory}
 
-abbrev pub Gives : {X A : Type 0} → (X → A) → Result X ReenactStop → Result A Refusal → Type 0
+abbrev pub Gives : {X A : Type 0} → (X → A) → Result X Stop → Result A Refusal → Type 0
 Gives view (Ok found) (Ok expected) = view found ≡ expected
 Gives view (Ok found) (Err expected) = ⊥
 Gives view (Err (Refused refusal)) (Ok expected) = ⊥

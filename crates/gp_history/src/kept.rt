@@ -3,13 +3,15 @@
 ghost use Rattle.std.specs.Prelude.{◌≡◌, ◌<◌, ◌≤◌, suc, IfOk};
 ghost use Rattle.gp_log.specs.Contents.{commits, tables};
 ghost use Rattle.gp_history.specs.Annotating.{Annotates};
+ghost use Rattle.gp_history.specs.Provenance.{AnnotatesOr};
 ghost use Rattle.gp_history.specs.Histories as h;
 
 use crate::annotated::Annotated;
 use crate::annotating::next_annotated;
 use crate::annotator::Annotator;
+use crate::asking::refused;
 use crate::error::HistoryStop;
-use gp_base::NoMemory;
+use gp_base::{NoMemory, Stop};
 use gp_log::Log;
 use gp_versions::VersionTable;
 use std::alloc::Global;
@@ -69,9 +71,18 @@ fn begun<A: Drop, N: Annotator<A>>(
     }
 }
 
-/// The annotations of the row versions that begin with the versions up to v, or up to a later version, from those that are kept. It stops
-/// as [`annotate`](crate::annotate) does.
-pub fn annotate_on<A: Drop, N: Annotator<A>>(
+/// The annotations of the row versions of a log that begin with the versions up to v, or up to a later version, from those that are kept.
+/// Those of later versions are one.
+///
+/// For each version in turn, the run of its transaction is tested first: Rows if a statement leaves more rows in its table than a
+/// statement may, Ancestry if it makes an identity of too many nodes, by the first such statement, and in one statement the rows
+/// first. Then Inconsistent, if the identities and cells of the rows that the commit publishes are not those of the row versions in
+/// some table, by the first such table in order of creation. The log and row versions of a history never stop.
+///
+/// One commit takes the time of its transaction's programs on the tables that it writes, over the row versions that its statements
+/// write, make rows of or join; of the others each is looked at once. A table that it has no statement on and none of whose spans
+/// begins or ends there is not looked at but for that.
+fn annotate_on<A: Drop, N: Annotator<A>>(
     alloc: Global,
     annotator: &N,
     log: &Log,
@@ -93,4 +104,25 @@ pub fn annotate_on<A: Drop, N: Annotator<A>>(
         };
     }
     Ok(known)
+}
+
+/// The annotations of the versions up to v, from those that are kept, or the refusal of a question that needs them.
+pub fn annotated_to<A: Drop, N: Annotator<A>>(
+    alloc: Global,
+    annotator: &N,
+    log: &Log,
+    versions: &[VersionTable],
+    kept: Option<Kept<A>>,
+    v: u32,
+) -> Result<Kept<A>, Stop>
+    requires sound { h.IsSound log.now versions.now }
+    requires within { v ≤ commits log.now }
+    requires kept { h.MayBeKept (N.domain annotator.now) log.now versions.now kept }
+    ensures { AnnotatesOr (h.Reaches (N.domain annotator.now) log.now versions.now v) result
+        (h.annotation_stop (N.domain annotator.now) log.now versions.now v) }
+{
+    match annotate_on(alloc, annotator, log, versions, kept, v) {
+        Ok(known) => Ok(known),
+        Err(stop) => Err(refused(log, stop)),
+    }
 }

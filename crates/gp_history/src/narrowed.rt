@@ -71,12 +71,9 @@ fn reach_of(log: &Log, t: u32, before: u32) -> Reach
     ensures { h.Covers log.now t before result }
 {
     log.bounds();
-    match log.begin_version(t) {
-        Some(first) => Reach {
-            first,
-            last: before + 1,
-        },
-        None => unreachable!(),
+    Reach {
+        first: log.begin_version(t),
+        last: before + 1,
     }
 }
 

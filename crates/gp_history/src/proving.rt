@@ -1,6 +1,6 @@
 //! Queries over past states, with provenance.
 
-ghost use Rattle.std.specs.Prelude.{◌≡◌, ◌≤◌, true, IfOk, None};
+ghost use Rattle.std.specs.Prelude.{◌≡◌, true, IfOk};
 ghost use Rattle.gp_algebra.specs.Fitting.{select_fits};
 ghost use Rattle.gp_algebra.specs.Statements.{width_of};
 ghost use Rattle.gp_algebra.specs.PlainViews.{program_view};
@@ -8,51 +8,31 @@ ghost use Rattle.gp_algebra.specs.Views.{select_view};
 ghost use Rattle.gp_algebra.specs.WellBuilt.{is_well_built};
 ghost use Rattle.gp_base.specs.Annotated.{monomials};
 ghost use Rattle.gp_compose.specs.Composing.{QueryFits, program_in};
-ghost use Rattle.gp_log.specs.Contents.{HasPoint, commits, tables};
+ghost use Rattle.gp_log.specs.Contents.{HasPoint, tables};
 ghost use Rattle.gp_prov.specs.Encoding.{encoded};
 ghost use Rattle.gp_prov.specs.ToPlain as to;
 ghost use Rattle.gp_reenact.specs.Reenacting.{RunsOver, spans_of};
 ghost use Rattle.gp_syntax.specs.Views.{point_view};
-ghost use Rattle.gp_history.specs.Provenance.{AnnotatesOr, Proves};
+ghost use Rattle.gp_history.specs.Provenance.{Proves};
 ghost use Rattle.gp_history.specs.SpanAnnotations.{versions_with};
 ghost use Rattle.gp_history.specs.Histories as h;
 
 use crate::annotated::Annotated;
-use crate::asking::{needed_version, refused, stopped, transaction_at};
-use crate::kept::{Kept, annotate_on};
+use crate::asking::needed_version;
+use crate::kept::{Kept, annotated_to};
 use crate::monomials::{Monomials, env};
 use gp_algebra::{PProgram, Select, programs_read_their_scans, scans};
-use gp_base::{Monomial, NoMemory, Row};
-use gp_compose::{ComposeStop, program};
+use gp_base::{Monomial, NoMemory, Row, Stop};
+use gp_compose::program;
 use gp_exec::{ExecStop, run};
 use gp_log::Log;
 use gp_merge::{merge, merged_programs_are_normal, merged_programs_mean_the_same};
 use gp_prov::to_plain;
-use gp_reenact::{ReenactStop, log_refusal};
+use gp_reenact::{log_refusal, stopped, transaction_at};
 use gp_syntax::Point;
 use gp_versions::VersionTable;
 use std::alloc::Global;
 use std::mem;
-
-/// The monomials of the versions up to this one, from those that are kept.
-fn annotated_to(
-    alloc: Global,
-    log: &Log,
-    versions: &[VersionTable],
-    kept: Option<Kept<Monomial>>,
-    v: u32,
-) -> Result<Kept<Monomial>, ReenactStop>
-    requires sound { h.IsSound log.now versions.now }
-    requires within { v ≤ commits log.now }
-    requires kept { h.MayBeKept monomials log.now versions.now kept }
-    ensures { AnnotatesOr (h.Reaches monomials log.now versions.now v) result
-        (h.annotation_stop monomials log.now versions.now v) }
-{
-    match annotate_on(alloc, &Monomials, log, versions, kept, v) {
-        Ok(known) => Ok(known),
-        Err(stop) => Err(refused(log, stop)),
-    }
-}
 
 /// The program of a query over a state, with columns for provenance.
 fn planned(alloc: Global, log: &Log, state: Point, select: &Select) -> Result<PProgram, NoMemory>
@@ -64,8 +44,8 @@ fn planned(alloc: Global, log: &Log, state: Point, select: &Select) -> Result<PP
 {
     match program(alloc, log, state, select) {
         Ok(program) => to_plain(alloc, &program, log.catalog(), true),
-        Err(ComposeStop::NoMemory) => Err(NoMemory),
-        Err(_) => unreachable!(),
+        Err(Stop::NoMemory) => Err(NoMemory),
+        Err(Stop::Refused(_)) => unreachable!(),
     }
 }
 
@@ -90,28 +70,11 @@ fn rows_over(
     run(alloc, &merged, &env)
 }
 
-/// The rows of a query over a state with their monomials, in no particular order: a monomial stands behind the cells of each row. Refused
-/// as [`log_refusal`] refuses the state; else as [`annotate`](crate::annotate) stops (E24 to E26), for the versions up to the one that the state needs;
-/// else if a statement of the transaction passes a limit (E25, E26); else if the answer has more than
-/// [`MAX_ANSWER_ROWS`](gp_base::MAX_ANSWER_ROWS) rows (E27).
-pub fn provenance(
-    alloc: Global,
-    log: &Log,
-    versions: &[VersionTable],
-    state: Point,
-    select: &Select,
-) -> Result<Vec<Row>, ReenactStop>
-    requires sound { h.IsSound log.now versions.now }
-    requires fits { select_fits (tables log.now) (select_view select.now) ≡ true }
-    ensures { Proves (λ rows. rows.items) result (h.provenance_answer log.now versions.now
-        (point_view state) (select_view select.now)) }
-{
-    let mut none = None;
-    provenance_from(alloc, log, versions, state, select, &mut none)
-}
-
-/// [`provenance`] from the annotations that earlier questions about this log and these row versions have left, if there are any. It leaves
-/// those that it has, unless it stops on the way to them.
+/// The rows of a query over a state with their monomials, in no particular order: a monomial stands behind the cells of each row. The
+/// annotations that earlier questions about this log and these row versions have left are used, if there are any, and it leaves those that
+/// it has, unless it stops on the way to them. Refused as [`log_refusal`] refuses the state; else as `annotate_on` stops (E24 to E26), for
+/// the versions up to the one that the state needs; else if a statement of the transaction passes a limit (E25, E26); else if the answer has
+/// more than [`MAX_ANSWER_ROWS`](gp_base::MAX_ANSWER_ROWS) rows (E27).
 pub fn provenance_from(
     alloc: Global,
     log: &Log,
@@ -119,7 +82,7 @@ pub fn provenance_from(
     state: Point,
     select: &Select,
     kept: &mut Option<Kept<Monomial>>,
-) -> Result<Vec<Row>, ReenactStop>
+) -> Result<Vec<Row>, Stop>
     requires sound { h.IsSound log.now versions.now }
     requires fits { select_fits (tables log.now) (select_view select.now) ≡ true }
     requires kept { h.MayBeKept monomials log.now versions.now kept.old }
@@ -128,7 +91,7 @@ pub fn provenance_from(
         (point_view state) (select_view select.now)) }
 {
     if let Some(refusal) = log_refusal(log, state) {
-        return Err(ReenactStop::Refused(refusal));
+        return Err(Stop::Refused(refusal));
     }
     kept_provenance(alloc, log, versions, state, select, kept)
 }
@@ -141,7 +104,7 @@ fn kept_provenance(
     state: Point,
     select: &Select,
     kept: &mut Option<Kept<Monomial>>,
-) -> Result<Vec<Row>, ReenactStop>
+) -> Result<Vec<Row>, Stop>
     requires sound { h.IsSound log.now versions.now }
     requires fits { select_fits (tables log.now) (select_view select.now) ≡ true }
     requires known { HasPoint log.now (point_view state) }
@@ -151,7 +114,14 @@ fn kept_provenance(
         (point_view state) (select_view select.now)) }
 {
     let old = mem::replace(kept, None);
-    let known = match annotated_to(alloc, log, versions, old, needed_version(log, state)) {
+    let known = match annotated_to(
+        alloc,
+        &Monomials,
+        log,
+        versions,
+        old,
+        needed_version(log, state),
+    ) {
         Ok(known) => known,
         Err(stop) => return Err(stop),
     };
@@ -168,7 +138,7 @@ fn known_provenance(
     known: &Kept<Monomial>,
     state: Point,
     select: &Select,
-) -> Result<Vec<Row>, ReenactStop>
+) -> Result<Vec<Row>, Stop>
     requires sound { h.IsSound log.now versions.now }
     requires fits { select_fits (tables log.now) (select_view select.now) ≡ true }
     requires known { HasPoint log.now (point_view state) }

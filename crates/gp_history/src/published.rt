@@ -10,8 +10,8 @@ ghost use Rattle.gp_log.specs.Contents.{HasPoint, StatementsFit, tables};
 ghost use Rattle.gp_history.specs.Changes.{is_scan};
 
 use gp_algebra::{AProgram, AQuery};
-use gp_base::NoMemory;
-use gp_compose::{ComposeStop, published};
+use gp_base::{NoMemory, Stop};
+use gp_compose::published;
 use gp_log::Log;
 use std::alloc::Global;
 
@@ -35,7 +35,7 @@ pub fn published_program(alloc: Global, log: &Log, t: u32, table: u32) -> Result
 {
     match published(alloc, log, u64::from(t), table) {
         Ok(program) => Ok(program),
-        Err(ComposeStop::NoMemory) => Err(NoMemory),
-        Err(_) => unreachable!(),
+        Err(Stop::NoMemory) => Err(NoMemory),
+        Err(Stop::Refused(_)) => unreachable!(),
     }
 }

@@ -1,6 +1,6 @@
 //! Queries over past states, with values in a semiring.
 
-ghost use Rattle.std.specs.Prelude.{◌≡◌, ◌≤◌, true, map, IfOk, None};
+ghost use Rattle.std.specs.Prelude.{◌≡◌, ◌≤◌, true, map, IfOk};
 ghost use Rattle.gp_algebra.specs.Fitting.{select_fits};
 ghost use Rattle.gp_algebra.specs.Statements.{width_of};
 ghost use Rattle.gp_algebra.specs.QueryViews.{annotated_program_view};
@@ -14,7 +14,6 @@ ghost use Rattle.gp_log.specs.Contents.{HasPoint, commits, tables};
 ghost use Rattle.gp_reenact.specs.Reenacting.{spans_of};
 ghost use Rattle.gp_syntax.specs.Views.{point_view};
 ghost use Rattle.gp_semiring.specs.Values.{token_value};
-ghost use Rattle.gp_history.specs.Annotating.{Annotates};
 ghost use Rattle.gp_history.specs.Provenance.{AnnotatesOr};
 ghost use Rattle.gp_history.specs.Running.{SumsOver};
 ghost use Rattle.gp_history.specs.SpanAnnotations.{versions_with};
@@ -22,61 +21,39 @@ ghost use Rattle.gp_history.specs.Values.{Gives, HasFewItems};
 ghost use Rattle.gp_history.specs.Histories as h;
 
 use crate::annotated::Annotated;
-use crate::asking::{needed_version, refused, stopped, transaction_at};
+use crate::asking::needed_version;
 use crate::elements::k_env;
-use crate::error::HistoryStop;
-use crate::kept::{Kept, annotate_on};
+use crate::kept::{Kept, annotated_to};
 use crate::value_laws::values_are_sums_over_the_history;
 use gp_algebra::{AProgram, Select, scans_of};
-use gp_base::NoMemory;
-use gp_compose::{ComposeStop, program};
+use gp_base::{NoMemory, Stop};
+use gp_compose::program;
 use gp_exec::ExecStop;
 use gp_kexec::{KRow, run_k};
 use gp_log::Log;
-use gp_reenact::{ReenactStop, log_refusal};
+use gp_reenact::{log_refusal, stopped, transaction_at};
 use gp_semiring::{Answers, Semiring, Valuation};
 use gp_syntax::Point;
 use gp_versions::VersionTable;
 use std::alloc::Global;
 use std::mem;
 
-/// Values of the versions up to this one or a later one, from those that are kept. It stops as monomials do.
-fn annotate_in_on<K: Semiring, F: Answers<K>>(
+/// The values of the versions up to this one, from those that are kept. It stops as monomials do.
+fn valued_to<K: Semiring, F: Answers<K>>(
     alloc: Global,
     log: &Log,
     versions: &[VersionTable],
     kept: Option<Kept<K>>,
     v: u32,
     valuation: &Valuation<K, F>,
-) -> Result<Kept<K>, HistoryStop>
-    requires sound { h.IsSound log.now versions.now }
-    requires within { v ≤ commits log.now }
-    requires kept { h.MayBeKept (values_in K.Semiring valuation.now) log.now versions.now kept }
-    ensures { Annotates (h.Reaches (values_in K.Semiring valuation.now) log.now versions.now v)
-        (tables log.now) result (h.annotation_stop monomials log.now versions.now v) }
-{
-    annotate_on(alloc, valuation, log, versions, kept, v)
-}
-
-/// The values of the versions up to this one, from those that are kept.
-fn annotated_to<K: Semiring, F: Answers<K>>(
-    alloc: Global,
-    log: &Log,
-    versions: &[VersionTable],
-    kept: Option<Kept<K>>,
-    v: u32,
-    valuation: &Valuation<K, F>,
-) -> Result<Kept<K>, ReenactStop>
+) -> Result<Kept<K>, Stop>
     requires sound { h.IsSound log.now versions.now }
     requires within { v ≤ commits log.now }
     requires kept { h.MayBeKept (values_in K.Semiring valuation.now) log.now versions.now kept }
     ensures { AnnotatesOr (h.Reaches (values_in K.Semiring valuation.now) log.now versions.now v)
         result (h.annotation_stop monomials log.now versions.now v) }
 {
-    match annotate_in_on(alloc, log, versions, kept, v, valuation) {
-        Ok(known) => Ok(known),
-        Err(stop) => Err(refused(log, stop)),
-    }
+    annotated_to(alloc, valuation, log, versions, kept, v)
 }
 
 /// The program of a query over a state.
@@ -88,8 +65,8 @@ fn planned(alloc: Global, log: &Log, state: Point, select: &Select) -> Result<AP
 {
     match program(alloc, log, state, select) {
         Ok(program) => Ok(program),
-        Err(ComposeStop::NoMemory) => Err(NoMemory),
-        Err(_) => unreachable!(),
+        Err(Stop::NoMemory) => Err(NoMemory),
+        Err(Stop::Refused(_)) => unreachable!(),
     }
 }
 
@@ -113,30 +90,10 @@ fn sums_over<K: Semiring, F: Answers<K>>(
 
 /// The distinct rows of a query over a state in row order, each with its value in the semiring: the sum, over its occurrences, of
 /// the values of their monomials. No monomial is listed: the versions are annotated with elements of the semiring, and the query
-/// adds and multiplies elements. Refused as [`provenance`](crate::provenance) is, but that only distinct rows are counted: E27 if
-/// there are more than [`MAX_ANSWER_ROWS`](gp_base::MAX_ANSWER_ROWS) of them.
-pub fn values<K: Semiring, F: Answers<K>>(
-    alloc: Global,
-    log: &Log,
-    versions: &[VersionTable],
-    state: Point,
-    select: &Select,
-    valuation: &Valuation<K, F>,
-) -> Result<Vec<KRow<K>>, ReenactStop>
-    requires sound { h.IsSound log.now versions.now }
-    requires fits { select_fits (tables log.now) (select_view select.now) ≡ true }
-    requires few { HasFewItems (select_view select.now) }
-    ensures { Gives (λ rows. map pair_view rows.items) result
-        (h.value_answer K.plus_of K.zero_of K.one_of K.times_of
-        (token_value K.one_of K.number_of K.itself_of valuation.now) log.now versions.now
-        (point_view state) (select_view select.now)) }
-{
-    let mut none = None;
-    values_from(alloc, log, versions, state, select, valuation, &mut none)
-}
-
-/// [`values`] from those that earlier questions about this log and these row versions have left under this valuation, if there are any. It
-/// leaves those that it has, unless it stops on the way to them.
+/// adds and multiplies elements. The elements that earlier questions about this log and these row versions have left under this
+/// valuation are used, if there are any, and it leaves those that it has, unless it stops on the way to them. Refused as
+/// [`provenance_from`](crate::provenance_from) is, but that only distinct rows are counted: E27 if there are more than
+/// [`MAX_ANSWER_ROWS`](gp_base::MAX_ANSWER_ROWS) of them.
 pub fn values_from<K: Semiring, F: Answers<K>>(
     alloc: Global,
     log: &Log,
@@ -145,7 +102,7 @@ pub fn values_from<K: Semiring, F: Answers<K>>(
     select: &Select,
     valuation: &Valuation<K, F>,
     kept: &mut Option<Kept<K>>,
-) -> Result<Vec<KRow<K>>, ReenactStop>
+) -> Result<Vec<KRow<K>>, Stop>
     requires sound { h.IsSound log.now versions.now }
     requires fits { select_fits (tables log.now) (select_view select.now) ≡ true }
     requires few { HasFewItems (select_view select.now) }
@@ -157,7 +114,7 @@ pub fn values_from<K: Semiring, F: Answers<K>>(
         (point_view state) (select_view select.now)) }
 {
     if let Some(refusal) = log_refusal(log, state) {
-        return Err(ReenactStop::Refused(refusal));
+        return Err(Stop::Refused(refusal));
     }
     kept_values(alloc, log, versions, state, select, valuation, kept)
 }
@@ -171,7 +128,7 @@ fn kept_values<K: Semiring, F: Answers<K>>(
     select: &Select,
     valuation: &Valuation<K, F>,
     kept: &mut Option<Kept<K>>,
-) -> Result<Vec<KRow<K>>, ReenactStop>
+) -> Result<Vec<KRow<K>>, Stop>
     requires sound { h.IsSound log.now versions.now }
     requires fits { select_fits (tables log.now) (select_view select.now) ≡ true }
     requires few { HasFewItems (select_view select.now) }
@@ -184,7 +141,7 @@ fn kept_values<K: Semiring, F: Answers<K>>(
         (point_view state) (select_view select.now)) }
 {
     let old = mem::replace(kept, None);
-    let known = match annotated_to(
+    let known = match valued_to(
         alloc,
         log,
         versions,
@@ -209,7 +166,7 @@ fn known_values<K: Semiring, F: Answers<K>>(
     state: Point,
     select: &Select,
     valuation: &Valuation<K, F>,
-) -> Result<Vec<KRow<K>>, ReenactStop>
+) -> Result<Vec<KRow<K>>, Stop>
     requires sound { h.IsSound log.now versions.now }
     requires fits { select_fits (tables log.now) (select_view select.now) ≡ true }
     requires few { HasFewItems (select_view select.now) }

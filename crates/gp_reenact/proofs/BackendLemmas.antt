@@ -31,8 +31,8 @@ use Rattle.gp_reenact.specs.Encoding as travel
 use Rattle.gp_reenact.specs.Travel as travels
 use Rattle.gp_versions.specs.Spans.{Versions}
 use Rattle.gp_reenact.specs.Backends.{GivesOver, IsGivenOver, ReenactsBy, RefusedBy}
-use Rattle.gp_reenact.specs.declared.error.ReenactStop.{ReenactStop}
-use Rattle.gp_reenact.specs.declared.error.ReenactStop.TheVariants.{Refused, NoMemory}
+use Rattle.gp_base.specs.declared.stop.Stop.{Stop}
+use Rattle.gp_base.specs.declared.stop.Stop.TheVariants.{Refused, NoMemory}
 use Rattle.gp_reenact.specs.Reenacting.{Reenacts, RunsOver, spans_of, stopped, transaction_at}
 use Rattle.gp_reenact.proofs.ReplayLemmas.{Replays, found_is, stop_is}
 
@@ -88,7 +88,7 @@ module _ {X : Type 0} (view : X → List (List Cell)) (entries : List Entry) (ve
   abbrev past : PlainEnvironment
   past = travel.encoded (travels.past_environment unannotated versions)
 
-  abbrev answer_is : Result X ReenactStop → Type 0
+  abbrev answer_is : Result X Stop → Type 0
   answer_is result = Reenacts view result (rows_answer parameters entries (spans_of versions) point select)
 
   executed_stop : (stop : ExecStop) → RunsOver (λ (rows : List (List Cell)). rows) (Err stop) past program → RunsOver view (Err stop) past program
@@ -105,7 +105,7 @@ module _ {X : Type 0} (view : X → List (List Cell)) (entries : List Entry) (ve
   refused refusal None is by =
       subst answer_is (ap Err (sym by.is)) (stop_is view entries versions point select program (replays is) by.stop (executed_stop by.stop (runs_over_same program past (Err by.stop) by.given)))
 
-  pub executed_reenacts : (result : Result X ReenactStop) → ReenactsBy view Executes result (log_refusal entries point) (transaction_at point) program past → answer_is result
+  pub executed_reenacts : (result : Result X Stop) → ReenactsBy view Executes result (log_refusal entries point) (transaction_at point) program past → answer_is result
   executed_reenacts (Ok found) by = found_is view entries versions point select program (replays by.0) found (runs_over_same program past (Ok (view found)) by.1)
   executed_reenacts (Err (Refused refusal)) by = refused refusal (log_refusal entries point) refl by
   executed_reenacts (Err NoMemory) by = tt

@@ -65,8 +65,8 @@ use Rattle.gp_reenact.specs.Backends.{ReenactsBy, RefusedBy}
 use Rattle.gp_reenact.specs.Looking.{looked_refusal, saw_answer}
 use Rattle.gp_reenact.specs.LookingForms.{EndsInTable, Looks, looked_answer, looked_program, looked_rows, saw_program, system_row}
 use Rattle.gp_reenact.specs.Reenacting.{Reenacts, RunsOver, spans_of, stopped}
-use Rattle.gp_reenact.specs.declared.error.ReenactStop.{ReenactStop}
-use Rattle.gp_reenact.specs.declared.error.ReenactStop.TheVariants.{Refused, NoMemory}
+use Rattle.gp_base.specs.declared.stop.Stop.{Stop as CallStop}
+use Rattle.gp_base.specs.declared.stop.Stop.TheVariants.{Refused, NoMemory}
 use Rattle.gp_reenact.proofs.BackendLemmas.{runs_over_same}
 use Rattle.gp_reenact.proofs.ReplayLemmas.{gives, refusal_at, run_refused}
 use Rattle.gp_reenact.proofs.StepStops.{env_is, forgets, forgetting, monoid, none_marked, past_wide, past_widths, steps_stop_is}
@@ -79,7 +79,7 @@ pub record Gives (versions : List Versions) (t : ℕ) (own : Option Refusal) (ro
   pub stops : own ≡ option_map (refusal_at t) (program_stop MAX_TABLE_ROWS MAX_NODES (travel.encoded (travels.past_environment unannotated versions)) program)
 
 -- what is found: the rows, in any order, or the refusal that is due
-abbrev Finds : {X : Type 0} → (X → List (List Cell)) → Result X ReenactStop → Result (List (List Cell)) Refusal → Type 0
+abbrev Finds : {X : Type 0} → (X → List (List Cell)) → Result X CallStop → Result (List (List Cell)) Refusal → Type 0
 Finds view (Ok found) (Ok list) = IsPermutation (view found) list
 Finds view (Ok found) (Err expected) = ⊥
 Finds view (Err (Refused refusal)) (Ok list) = ⊥
@@ -121,17 +121,17 @@ module _ {X : Type 0} (view : X → List (List Cell)) (versions : List Versions)
   refused found (Some due) is same =
       subst (λ d. Finds view (Err (Refused found)) (given (option_or d (option_or own (cond (nat_lt MAX_ANSWER_ROWS (length list)) (Some E27) None))) list)) (sym is) same
   refused found None is by =
-      subst (λ (r : Result X ReenactStop). Finds view r expected) (ap Err (sym by.is)) (stop_is is by.stop (runs_over_same program env (Err by.stop) by.given))
+      subst (λ (r : Result X CallStop). Finds view r expected) (ap Err (sym by.is)) (stop_is is by.stop (runs_over_same program env (Err by.stop) by.given))
 
   -- what the executor gives for the program is what is due
-  pub executed_finds : (result : Result X ReenactStop) → ReenactsBy view Executes result refusal t program env → Finds view result expected
+  pub executed_finds : (result : Result X CallStop) → ReenactsBy view Executes result refusal t program env → Finds view result expected
   executed_finds (Ok found) by = found_is by.0 found (runs_over_same program env (Ok (view found)) by.1)
   executed_finds (Err (Refused found)) by = refused found refusal refl by
   executed_finds (Err NoMemory) by = tt
 
 -- the elements of an answer for their cells
 module _ {X : Type 0} (view : X → List (List Cell)) (elements : List (Element (Unit {0}))) where
-  finds_reenacts : (due : Option Refusal) (result : Result X ReenactStop) → Finds view result (given due (cells_of elements)) → Reenacts view result (given due elements)
+  finds_reenacts : (due : Option Refusal) (result : Result X CallStop) → Finds view result (given due (cells_of elements)) → Reenacts view result (given due elements)
   finds_reenacts None (Ok found) is = is
   finds_reenacts (Some refusal) (Ok found) is = is
   finds_reenacts None (Err (Refused refusal)) is = is
@@ -219,7 +219,7 @@ module _ (entries : List Entry) (versions : List Versions) (fit : statements_fit
               ∙ sym (merged_stop MAX_TABLE_ROWS MAX_NODES past whole ordered));
         }
 
-    pub saw_executes : {X : Type 0} (view : X → List (List Cell)) (result : Result X ReenactStop)
+    pub saw_executes : {X : Type 0} (view : X → List (List Cell)) (result : Result X CallStop)
         → ReenactsBy view Executes result (saw_refusal t k entries) t (saw_program entries t k select) (travel.encoded (travels.past_environment unannotated versions))
         → Reenacts view result (saw_answer parameters entries (spans_of versions) t k select)
     saw_executes view result by =

@@ -25,8 +25,6 @@ use Rattle.gp_algebra.specs.Reannotation.{forgotten}
 use Rattle.gp_algebra.specs.Statements.{Select, Statement}
 use Rattle.gp_algebra.specs.Stops.{Stop, rows, ancestry, program_stop}
 use Rattle.gp_algebra.specs.WellBuilt.{is_well_built}
-use Rattle.gp_exec.specs.declared.env.Env.{Env}
-use Rattle.gp_exec.specs.Running.{Runs, environment_view}
 use Rattle.gp_exec.specs.declared.error.ExecStop.{ExecStop}
 use Rattle.gp_exec.specs.declared.error.ExecStop.TheVariants as exec
 use Rattle.gp_base.specs.declared.limit.TheConstants.{MAX_TABLE_ROWS, MAX_ANSWER_ROWS}
@@ -139,18 +137,6 @@ module _ {X : Type 0} (view : X → List (List Cell)) (entries : List Entry) (ve
       let many : nat_lt MAX_ANSWER_ROWS (length elements) ≡ true = grind (arith, nat_tests) in
       subst (λ d. Reenacts view (Err (stopped (transaction_at point) exec.Answer)) d) (sym (due_is None runs.0 true many)) refl
   stop_is exec.NoMemory runs = tt
-
--- the run of a program that has asked for all that it scans
-pub runs_over : {X : Type 0} (view : X → List (List Cell)) (result : Result X ExecStop) (scanned : Env) (versions : List Versions) (program : p.PlainProgram)
-    → p.program_meaning (environment_view scanned) program ≡ p.program_meaning (travel.encoded (travels.past_environment unannotated versions)) program
-    → program_stop MAX_TABLE_ROWS MAX_NODES (environment_view scanned) program ≡ program_stop MAX_TABLE_ROWS MAX_NODES (travel.encoded (travels.past_environment unannotated versions)) program
-    → Runs view result scanned program → RunsOver view result (travel.encoded (travels.past_environment unannotated versions)) program
-runs_over view (Ok found) scanned versions program same_rows same_stop runs =
-    (sym same_stop ∙ runs.0, (subst (λ rows. IsPermutation (view found) rows) same_rows runs.1.0, subst (λ rows. length rows ≤ MAX_ANSWER_ROWS) same_rows runs.1.1))
-runs_over view (Err (exec.Rows j)) scanned versions program same_rows same_stop runs = sym same_stop ∙ runs
-runs_over view (Err (exec.Ancestry j)) scanned versions program same_rows same_stop runs = sym same_stop ∙ runs
-runs_over view (Err exec.Answer) scanned versions program same_rows same_stop runs = (sym same_stop ∙ runs.0, subst (λ rows. MAX_ANSWER_ROWS < length rows) same_rows runs.1)
-runs_over view (Err exec.NoMemory) scanned versions program same_rows same_stop runs = tt
 
 -- ---- rows of queries
 

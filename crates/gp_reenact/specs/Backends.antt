@@ -8,8 +8,8 @@ use Rattle.gp_algebra.specs.Scans.{HaveSameRowsOn, program_scans}
 use Rattle.gp_exec.specs.Backends.{Given}
 use Rattle.gp_exec.specs.declared.error.ExecStop.{ExecStop}
 use Rattle.gp_exec.specs.declared.error.ExecStop.TheVariants as exec
-use Rattle.gp_reenact.specs.declared.error.ReenactStop.{ReenactStop}
-use Rattle.gp_reenact.specs.declared.error.ReenactStop.TheVariants.{Refused, NoMemory}
+use Rattle.gp_base.specs.declared.stop.Stop.{Stop}
+use Rattle.gp_base.specs.declared.stop.Stop.TheVariants.{Refused, NoMemory}
 use Rattle.gp_reenact.specs.Reenacting.{stopped}
 
 -- the answer is given for the program, over the rows of these versions
@@ -38,7 +38,7 @@ RefusedBy gives refusal (Some expected) t program past = refusal ≡ expected
 RefusedBy gives refusal None t program past = IsStop gives refusal t program past
 
 abbrev pub ReenactsBy : {X : Type 0} → (X → List (List Cell)) → (PlainProgram → PlainEnvironment → Given → Type 0)
-    → Result X ReenactStop → Option Refusal → ℕ → PlainProgram → PlainEnvironment → Type 0
+    → Result X Stop → Option Refusal → ℕ → PlainProgram → PlainEnvironment → Type 0
 ReenactsBy view gives (Ok found) expected t program past = (expected ≡ None) × IsGivenOver gives program past (Ok (view found))
 ReenactsBy view gives (Err (Refused refusal)) expected t program past = RefusedBy gives refusal expected t program past
 ReenactsBy view gives (Err NoMemory) expected t program past = Unit {0}

@@ -1,6 +1,5 @@
 pub mod Backends
 pub mod Reenacting
-pub mod Uncomposed
 pub mod Programs
 pub mod Encoding
 pub mod Travel

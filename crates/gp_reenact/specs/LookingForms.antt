@@ -24,8 +24,8 @@ use Rattle.gp_merge.specs.Merging.{merged}
 use Rattle.gp_prov.specs.ToPlain.{plain_program}
 use Rattle.gp_versions.specs.declared.span.Span.{Span}
 use Rattle.gp_reenact.specs.Looking.{looked_refusal}
-use Rattle.gp_reenact.specs.declared.error.ReenactStop.{ReenactStop}
-use Rattle.gp_reenact.specs.declared.error.ReenactStop.TheVariants.{Refused, NoMemory}
+use Rattle.gp_base.specs.declared.stop.Stop.{Stop}
+use Rattle.gp_base.specs.declared.stop.Stop.TheVariants.{Refused, NoMemory}
 
 -- the program of a query over what the transaction saw after its first statements
 abbrev pub saw_program : List Entry → ℕ → ℕ → Select → PlainProgram
@@ -48,7 +48,7 @@ abbrev pub looked_program : List Entry → ℕ → ℕ → Statement → PlainPr
 looked_program entries t k statement = merged (plain_program (width_of (tables_in entries)) false (looking_program (width_of (tables_in entries)) (log_of entries) t k statement))
 
 -- what looking answers: the rows, in the order of their table, or the refusal that is due
-abbrev pub Looks : {X : Type 0} → (X → List (List Cell)) → Result X ReenactStop → Result (List (List Cell)) Refusal → Type 0
+abbrev pub Looks : {X : Type 0} → (X → List (List Cell)) → Result X Stop → Result (List (List Cell)) Refusal → Type 0
 Looks view (Ok found) (Ok list) = view found ≡ list
 Looks view (Ok found) (Err expected) = ⊥
 Looks view (Err (Refused refusal)) (Ok list) = ⊥

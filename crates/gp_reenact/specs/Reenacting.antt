@@ -16,14 +16,14 @@ use Rattle.gp_base.specs.declared.limit.TheConstants.{MAX_TABLE_ROWS, MAX_ANSWER
 use Rattle.gp_reenact.specs.Travel.{no_table}
 use Rattle.gp_versions.specs.declared.span.Span.{Span}
 use Rattle.gp_versions.specs.Spans.{Versions}
-use Rattle.gp_reenact.specs.declared.error.ReenactStop.{ReenactStop}
-use Rattle.gp_reenact.specs.declared.error.ReenactStop.TheVariants.{Refused, NoMemory}
+use Rattle.gp_base.specs.declared.stop.Stop.{Stop}
+use Rattle.gp_base.specs.declared.stop.Stop.TheVariants.{Refused, NoMemory}
 
 -- the row versions of each table; a table that is not there has none
 abbrev pub spans_of : List Versions → ℕ → List Span
 spans_of versions table = (slice_index_or versions table no_table).spans
 
-abbrev pub Reenacts : {X M : Type 0} → (X → List (List Cell)) → Result X ReenactStop → Result (List (Element M)) Refusal → Type 0
+abbrev pub Reenacts : {X M : Type 0} → (X → List (List Cell)) → Result X Stop → Result (List (Element M)) Refusal → Type 0
 Reenacts view (Ok found) (Ok elements) = IsPermutation (view found) (cells_of elements)
 Reenacts view (Ok found) (Err expected) = ⊥
 Reenacts view (Err (Refused refusal)) (Ok elements) = ⊥
@@ -31,7 +31,7 @@ Reenacts view (Err (Refused refusal)) (Err expected) = refusal ≡ expected
 Reenacts view (Err NoMemory) expected = Unit {0}
 
 -- it is that of a state, or the log gives the refusal
-abbrev pub Plans : {X : Type 0} → (X → PlainProgram) → Result X ReenactStop → Option Refusal → PlainProgram → Type 0
+abbrev pub Plans : {X : Type 0} → (X → PlainProgram) → Result X Stop → Option Refusal → PlainProgram → Type 0
 Plans view (Ok found) expected program = (expected ≡ None) × (view found ≡ program)
 Plans view (Err (Refused refusal)) expected program = expected ≡ Some refusal
 Plans view (Err NoMemory) expected program = Unit {0}
@@ -58,7 +58,7 @@ transaction_at (y.after t k) = t
 transaction_at (y.Point.commit t) = t
 
 -- the refusal of a state whose program stops; a step has the number of its statement
-abbrev pub stopped : ℕ → ExecStop → ReenactStop
+abbrev pub stopped : ℕ → ExecStop → Stop
 stopped t (exec.Rows j) = Refused (E25 t j)
 stopped t (exec.Ancestry j) = Refused (E26 t j)
 stopped t exec.Answer = Refused E27

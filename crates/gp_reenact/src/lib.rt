@@ -24,15 +24,13 @@
 
 mod encoding;
 mod env;
-mod error;
 mod laws;
 mod looking;
 mod replay;
 mod scan_laws;
 
 pub use env::env_at;
-pub use error::ReenactStop;
 pub use laws::committed_transactions_saw_what_is_reenacted;
-pub use looking::{changes_refusal, looked, saw, saw_refusal};
-pub use replay::{log_refusal, planned, reenact, reenact_by};
+pub use looking::{changes_refusal, looked, planned_saw, saw, saw_refusal};
+pub use replay::{log_refusal, planned, reenact, reenact_by, stopped, transaction_at};
 pub use scan_laws::{annotations_are_left_out, asked_scans_suffice};

@@ -19,11 +19,10 @@ ghost use Rattle.gp_reenact.specs.LookingForms.{EndsInTable, Looks, looked_answe
 ghost use Rattle.gp_reenact.specs.Reenacting.{Plans, Reenacts, spans_of};
 
 use crate::env::env_at;
-use crate::error::ReenactStop;
 use crate::replay::{merged_program, rows_over, stopped};
 use crate::scan_laws::asked_scans_suffice;
 use gp_algebra::{PProgram, Select, Stmt, scans};
-use gp_base::{MAX_TABLE_ROWS, Refusal, Row};
+use gp_base::{MAX_TABLE_ROWS, Refusal, Row, Stop};
 use gp_compose::{check_seen, check_statement, seen};
 use gp_exec::{Backend, ExecStop, Plain, run_table};
 use gp_log::Log;
@@ -37,7 +36,7 @@ pub fn saw_refusal(log: &Log, t: u64, k: u64) -> Option<Refusal>
 {
     match check_seen(log, t, k) {
         Ok(()) => None,
-        Err(stop) => stop.refusal(),
+        Err(refusal) => Some(refusal),
     }
 }
 
@@ -47,18 +46,18 @@ pub fn changes_refusal(log: &Log, t: u64, k: u64) -> Option<Refusal>
 {
     match check_statement(log, t, k) {
         Ok(()) => None,
-        Err(stop) => stop.refusal(),
+        Err(refusal) => Some(refusal),
     }
 }
 
 /// The merged program of a query over what a transaction saw after its first statements. Refused as [`saw_refusal`] refuses it.
-fn planned_saw(
+pub fn planned_saw(
     alloc: Global,
     log: &Log,
     t: u64,
     k: u64,
     select: &Select,
-) -> Result<PProgram, ReenactStop>
+) -> Result<PProgram, Stop>
     requires { QueryFits log.now (select_view select.now) }
     ensures { Plans program_view result (s.saw_refusal t k (entries log.now))
         (saw_program (entries log.now) t k (select_view select.now)) }
@@ -66,7 +65,8 @@ fn planned_saw(
     // What may fail borrows the program, which has many parts: each way out that owns it lets them all go.
     match seen(alloc, log, t, k, select) {
         Ok(program) => merged_program(alloc, log, &program, false),
-        Err(stop) => Err(ReenactStop::from(stop)),
+        Err(Stop::Refused(refusal)) => Err(Stop::Refused(refusal)),
+        Err(Stop::NoMemory) => Err(Stop::NoMemory),
     }
 }
 
@@ -88,7 +88,7 @@ fn saw_by<B: Backend>(
     k: u64,
     select: &Select,
     backend: &B,
-) -> Result<Vec<Row>, ReenactStop>
+) -> Result<Vec<Row>, Stop>
     requires { QueryFits log.now (select_view select.now) }
     ensures { ReenactsBy (λ rows. rows.items) (B.gives backend.now) result
         (s.saw_refusal t k (entries log.now)) t
@@ -114,7 +114,7 @@ pub fn saw(
     t: u64,
     k: u64,
     select: &Select,
-) -> Result<Vec<Row>, ReenactStop>
+) -> Result<Vec<Row>, Stop>
     requires query { QueryFits log.now (select_view select.now) }
     requires spans { SpansFit (tables log.now) (spans_of versions.now) }
     ensures { Reenacts (λ rows. rows.items) result (saw_answer parameters (entries log.now)
@@ -130,7 +130,7 @@ fn planned_look(
     t: u32,
     before: u32,
     stmt: &Stmt,
-) -> Result<PProgram, ReenactStop>
+) -> Result<PProgram, Stop>
     requires statement { HasStatement log.now t before (statement_view stmt.now) }
     requires more { before + 1 < 2 ^ 32 }
     requires writes { s.writes (statement_view stmt.now) ≡ true }
@@ -170,7 +170,7 @@ pub fn looked(
     t: u32,
     before: u32,
     stmt: &Stmt,
-) -> Result<Vec<Row>, ReenactStop>
+) -> Result<Vec<Row>, Stop>
     requires statement { HasStatement log.now t before (statement_view stmt.now) }
     requires more { before + 1 < 2 ^ 32 }
     requires writes { s.writes (statement_view stmt.now) ≡ true }

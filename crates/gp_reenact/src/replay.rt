@@ -24,9 +24,8 @@ ghost use Rattle.gp_reenact.specs.Reenacting.{Plans, Reenacts, spans_of};
 ghost use Rattle.gp_reenact.specs.Programs.{merged_at};
 
 use crate::env::env_at;
-use crate::error::ReenactStop;
 use gp_algebra::{AProgram, PProgram, Select, scans};
-use gp_base::{Refusal, Row};
+use gp_base::{Refusal, Row, Stop};
 use gp_compose::{check_state, program};
 use gp_exec::{Backend, ExecStop, Plain};
 use gp_log::Log;
@@ -43,7 +42,7 @@ pub fn log_refusal(log: &Log, state: Point) -> Option<Refusal>
 {
     match check_state(log, state) {
         Ok(()) => None,
-        Err(stop) => stop.refusal(),
+        Err(refusal) => Some(refusal),
     }
 }
 
@@ -64,7 +63,7 @@ pub(crate) fn rows_over<B: Backend>(
 }
 
 /// The transaction of a state that the log has, or 0 for a version.
-fn transaction_at(log: &Log, state: Point) -> u32
+pub fn transaction_at(log: &Log, state: Point) -> u32
     requires { HasPoint log.now (point_view state) }
     ensures { result ≡ r.transaction_at (point_view state) }
 {
@@ -76,14 +75,14 @@ fn transaction_at(log: &Log, state: Point) -> u32
 }
 
 /// The refusal of a state of this transaction whose program stops.
-pub(crate) fn stopped(t: u32, stop: ExecStop) -> ReenactStop
+pub fn stopped(t: u32, stop: ExecStop) -> Stop
     ensures { result ≡ r.stopped t stop }
 {
     match stop {
-        ExecStop::Rows { j } => ReenactStop::Refused(Refusal::E25 { t, k: j }),
-        ExecStop::Ancestry { j } => ReenactStop::Refused(Refusal::E26 { t, k: j }),
-        ExecStop::Answer => ReenactStop::Refused(Refusal::E27),
-        ExecStop::NoMemory => ReenactStop::NoMemory,
+        ExecStop::Rows { j } => Stop::Refused(Refusal::E25 { t, k: j }),
+        ExecStop::Ancestry { j } => Stop::Refused(Refusal::E26 { t, k: j }),
+        ExecStop::Answer => Stop::Refused(Refusal::E27),
+        ExecStop::NoMemory => Stop::NoMemory,
     }
 }
 
@@ -93,7 +92,7 @@ pub(crate) fn merged_program(
     log: &Log,
     program: &AProgram,
     with_prov: bool,
-) -> Result<PProgram, ReenactStop>
+) -> Result<PProgram, Stop>
     requires { is_well_built (to.plain_program (width_of (tables log.now)) with_prov
         (annotated_program_view program.now)) ≡ true }
     ensures { Plans program_view result None (merged (to.plain_program
@@ -111,7 +110,7 @@ pub fn planned(
     state: Point,
     select: &Select,
     with_prov: bool,
-) -> Result<PProgram, ReenactStop>
+) -> Result<PProgram, Stop>
     requires { QueryFits log.now (select_view select.now) }
     ensures { Plans program_view result (m.log_refusal (entries log.now) (point_view state))
         (merged_at with_prov (entries log.now) (point_view state) (select_view select.now)) }
@@ -119,7 +118,8 @@ pub fn planned(
     // What may fail borrows the program, which has many parts: each way out that owns it lets them all go.
     match program(alloc, log, state, select) {
         Ok(program) => merged_program(alloc, log, &program, with_prov),
-        Err(stop) => Err(ReenactStop::from(stop)),
+        Err(Stop::Refused(refusal)) => Err(Stop::Refused(refusal)),
+        Err(Stop::NoMemory) => Err(Stop::NoMemory),
     }
 }
 
@@ -133,7 +133,7 @@ pub fn reenact_by<B: Backend>(
     state: Point,
     select: &Select,
     backend: &B,
-) -> Result<Vec<Row>, ReenactStop>
+) -> Result<Vec<Row>, Stop>
     requires { QueryFits log.now (select_view select.now) }
     ensures { ReenactsBy (λ rows. rows.items) (B.gives backend.now) result
         (m.log_refusal (entries log.now) (point_view state)) (r.transaction_at (point_view state))
@@ -159,7 +159,7 @@ pub fn reenact(
     versions: &[VersionTable],
     state: Point,
     select: &Select,
-) -> Result<Vec<Row>, ReenactStop>
+) -> Result<Vec<Row>, Stop>
     requires query { QueryFits log.now (select_view select.now) }
     requires spans { SpansFit (tables log.now) (spans_of versions.now) }
     ensures { Reenacts (λ rows. rows.items) result

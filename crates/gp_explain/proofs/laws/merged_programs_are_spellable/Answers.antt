@@ -1,5 +1,4 @@
-use Rattle.gp_log.specs.LogFacts.{tables_in}
-use Rattle.gp_reenact.specs.Programs.{merged_at}
+use Rattle.gp_explain.proofs.Prelude.{tables_in, merged_at}
 use Rattle.gp_explain.proofs.ComposedShapes.{merged_at_shaped}
 use Rattle.gp_explain.proofs.RangeLemmas.{program_spelled}
 use Rattle.gp_explain.proofs.laws.merged_programs_are_spellable.Goals as goal

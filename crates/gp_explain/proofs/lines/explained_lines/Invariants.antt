@@ -1,5 +1,4 @@
-use Rattle.std.proofs.Common.{◌≡◌, ◌++◌, drop}
-use Rattle.gp_explain.specs.ExplainedLines.{lines_from, text_lines}
+use Rattle.gp_explain.proofs.Prelude.{◌≡◌, ◌++◌, drop, lines_from, text_lines}
 use Rattle.gp_explain.proofs.lines.explained_lines.Given as goal
 
 -- the lines so far and those of what remains are the lines of all

@@ -1,6 +1,5 @@
-use Rattle.std.proofs.Common.{◌≡◌, true}
+use Rattle.gp_explain.proofs.Prelude.{◌≡◌, true, table_is_spellable}
 use borrow.Author.Count.{below_more}
-use Rattle.gp_plantext.specs.Spellable.{table_is_spellable}
 use Rattle.gp_explain.proofs.names.tables_are_named.Goals as goal
 
 pub loop-place-preserved : goal.loop-place-preserved

@@ -1,5 +1,4 @@
-use Rattle.std.proofs.Common.{◌≡◌, ◌<◌, ℕ, true}
-use Rattle.gp_plantext.specs.Spellable.{table_is_spellable}
+use Rattle.gp_explain.proofs.Prelude.{◌≡◌, ◌<◌, ℕ, true, table_is_spellable}
 use Rattle.gp_explain.proofs.names.tables_are_named.Given as goal
 
 -- the tables so far have names

@@ -1,9 +1,5 @@
-use Rattle.std.proofs.Common.{◌≡◌, ◌+◌, ap, sym, subst, arith}
-use Rattle.gp_expr.specs.Sizes.{size}
-use Rattle.gp_expr.specs.SizeForms.{parts_size}
-use Rattle.gp_expr.specs.Views.{expr_view, parts_of}
+use Rattle.gp_explain.proofs.Prelude.{◌≡◌, ◌+◌, ap, sym, subst, arith, size, parts_size, expr_view, parts_of, ExprInRange}
 use Rattle.gp_expr.proofs.ViewLemmas.{new_id_view}
-use Rattle.gp_explain.specs.Numbers.{ExprInRange}
 use Rattle.gp_explain.proofs.numbers.+terms.Goals as goal
 
 pub expr_in_range-new_id_in_range-requires : goal.expr_in_range-new_id_in_range-requires

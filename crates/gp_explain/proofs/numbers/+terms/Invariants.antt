@@ -1,9 +1,6 @@
-use Rattle.std.proofs.Common.{◌+◌, ◌*◌, ◌≤◌, drop}
-use Rattle.std.specs.List.{AllByRecursion}
-use Rattle.gp_expr.specs.Sizes.{size}
-use Rattle.gp_expr.specs.SizeForms.{cond_size, parts_size}
-use Rattle.gp_expr.specs.Views.{cond_view, expr_view, parts_of}
-use Rattle.gp_explain.specs.Numbers.{ExprInRange}
+use Rattle.gp_explain.proofs.Prelude.{◌+◌, ◌*◌, ◌≤◌, drop, AllByRecursion, size, parts_size, expr_view, parts_of, ExprInRange}
+use Rattle.gp_expr.specs.SizeForms.{cond_size}
+use Rattle.gp_expr.specs.Views.{cond_view}
 use Rattle.gp_explain.proofs.numbers.+terms.Given as goal
 
 -- if those that remain are in range, all are; those that remain are no larger than all

@@ -1,7 +1,4 @@
-use Rattle.std.proofs.Common.{subst, map}
-use Rattle.std.specs.List.{AllByRecursion}
-use Rattle.gp_algebra.specs.PlainViews.{step_view}
-use Rattle.gp_explain.specs.Numbers.{StepInRange}
+use Rattle.gp_explain.proofs.Prelude.{subst, map, AllByRecursion, step_view, StepInRange}
 use Rattle.gp_explain.proofs.RangeLoops.{each_view}
 use Rattle.gp_explain.proofs.numbers.program_in_range.Goals as goal
 

@@ -1,6 +1,4 @@
-use Rattle.std.proofs.Common.{drop}
-use Rattle.std.specs.List.{AllByRecursion}
-use Rattle.gp_base.specs.CellForms.{AreInRange}
+use Rattle.gp_explain.proofs.Prelude.{drop, AllByRecursion, AreInRange}
 use Rattle.gp_explain.proofs.numbers.rows_in_range.Given as goal
 
 -- if those that remain are in range, all are

@@ -1,7 +1,4 @@
-use Rattle.std.proofs.Common.{drop}
-use Rattle.std.specs.List.{AllByRecursion}
-use Rattle.gp_algebra.specs.PlainViews.{step_view}
-use Rattle.gp_explain.specs.Numbers.{StepInRange}
+use Rattle.gp_explain.proofs.Prelude.{drop, AllByRecursion, step_view, StepInRange}
 use Rattle.gp_explain.proofs.numbers.steps_in_range.Given as goal
 
 -- if those that remain are in range, all are

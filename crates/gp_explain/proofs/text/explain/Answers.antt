@@ -1,13 +1,8 @@
-use Rattle.std.proofs.Common.{ℕ, Global, Vec, subst, sym}
+use Rattle.gp_explain.proofs.Prelude.{ℕ, subst, sym, PlainProgram, tables_in, log_refusal, merged_at, Explains, IsShaped}
+use Rattle.std.proofs.Common.{Global, Vec}
 use Rattle.gp_syntax.specs.Views.{point_view}
-use Rattle.gp_algebra.specs.Plain.{PlainProgram}
 use Rattle.gp_algebra.specs.Views.{select_view}
-use Rattle.gp_log.specs.LogFacts.{tables_in}
 use Rattle.gp_log.specs.Logs.{log_view}
-use Rattle.gp_machine.specs.Questions.{log_refusal}
-use Rattle.gp_reenact.specs.Programs.{merged_at}
-use Rattle.gp_explain.specs.Explained.{Explains}
-use Rattle.gp_explain.specs.Shapes.{IsShaped}
 use Rattle.gp_explain.proofs.ComposedShapes.{merged_at_shaped}
 use Rattle.gp_explain.proofs.ExplainLemmas.{explains_by, explains_what}
 use Rattle.gp_explain.proofs.MeaningLemmas.{spelled_explains}
@@ -33,5 +28,5 @@ returns-clause-meaning c =
     let planned = c.in_ok-program.ensures in
     explains_what (λ (text : Vec ℕ Global). text.items) (Explains entries (point_view c.args.state) select c.args.with_prov) c.written.result (log_refusal entries (point_view c.args.state)) (tables_in entries)
     (merged_at c.args.with_prov entries (point_view c.args.state) select)
-    (λ text spells. spelled_explains entries select c.requires.statements c.requires.fits (point_view c.args.state) planned.0 c.args.with_prov text spells)
+    (λ text spells. spelled_explains entries select c.requires.statements c.requires.fits (point_view c.args.state) c.args.with_prov planned.0 text spells)
     (explains_by (λ (text : Vec ℕ Global). text.items) c.written.result (log_refusal entries (point_view c.args.state)) (tables_in entries) _ _ planned.0 planned.1 c.written.ensures)

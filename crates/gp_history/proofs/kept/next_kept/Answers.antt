@@ -1,4 +1,4 @@
-use Rattle.std.proofs.Common.{List, arith, suc, ℕ, ◌+◌, ◌≡◌}
+use Rattle.std.proofs.Common.{List, arith, suc, ◌+◌, ◌≡◌}
 use Rattle.gp_log.specs.LogFacts.{tables_in}
 use Rattle.gp_log.specs.Logs.{log_view}
 use Rattle.gp_machine.specs.Entries.{log_of}

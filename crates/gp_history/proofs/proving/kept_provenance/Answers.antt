@@ -1,4 +1,4 @@
-use Rattle.std.proofs.Common.{ap, subst, sym, ℕ, ◌≤◌}
+use Rattle.std.proofs.Common.{subst, sym, ℕ, ◌≤◌}
 use Rattle.gp_base.specs.Annotated.{monomials}
 use Rattle.gp_log.specs.Logs.{log_view}
 use Rattle.gp_machine.specs.Entries.{versions_in}

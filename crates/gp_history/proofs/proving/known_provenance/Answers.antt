@@ -1,4 +1,4 @@
-use Rattle.std.proofs.Common.{Err, Global, None, Ok, Vec, ap, subst, sym, ℕ, ◌∙◌, ◌≡◌}
+use Rattle.std.proofs.Common.{Err, Global, Ok, Vec, ap, subst, sym, ℕ, ◌∙◌}
 use Rattle.gp_algebra.specs.PlainViews.{program_view}
 use Rattle.gp_algebra.specs.Views.{select_view}
 use Rattle.gp_algebra.specs.WellBuilt.{is_well_built}
@@ -8,8 +8,8 @@ use Rattle.gp_log.specs.Parameters.{parameters}
 use Rattle.gp_log.specs.LogFacts.{tables_in}
 use Rattle.gp_log.specs.Logs.{log_view}
 use Rattle.gp_machine.specs.Entries.{log_of, versions_in}
-use Rattle.gp_machine.specs.Questions.{annotated_answer, annotation_stop, needed_version}
-use Rattle.gp_reenact.specs.declared.error.ReenactStop.{ReenactStop}
+use Rattle.gp_machine.specs.Questions.{annotated_answer, needed_version}
+use Rattle.gp_base.specs.declared.stop.Stop.{Stop}
 use Rattle.gp_reenact.specs.Reenacting.{spans_of, stopped}
 use Rattle.gp_syntax.specs.Views.{point_view}
 use Rattle.gp_history.specs.Agreement.{agree}
@@ -53,7 +53,7 @@ returns c =
     let kept = c.args.known.now in
     let reaches = c.requires.reaches in
     let none = none_before monomials (tables_in entries) (log_of entries) spans (needed_version entries point) kept.version reaches.1 reaches.0.unstopped in
-    subst (λ (stop : ReenactStop). Proves view (Err stop) (annotated_answer monomials parameters agree (tables_in entries) entries spans point select))
+    subst (λ (stop : Stop). Proves view (Err stop) (annotated_answer monomials parameters agree (tables_in entries) entries spans point select))
     (sym (c.stopped.ensures ∙ ap (λ (t : ℕ). stopped t c.in-Err.stop) c.transaction_at.ensures))
     (stop_is view entries versions c.requires.sound select c.requires.fits point c.requires.known none c.in-Err.stop
     (over_all view entries versions c.requires.sound select c.requires.fits point c.requires.known kept.version reaches.1 reaches.0.within kept.annotated reaches.0.annotated (program_view c.in_ok-plain.plain) c.in_ok-plain.ensures (Err c.in-Err.stop) c.in-Err.ensures))

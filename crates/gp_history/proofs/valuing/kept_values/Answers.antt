@@ -1,4 +1,4 @@
-use Rattle.std.proofs.Common.{ap, subst, sym, ℕ, ◌≤◌}
+use Rattle.std.proofs.Common.{subst, sym, ℕ, ◌≤◌}
 use Rattle.gp_kexec.specs.Valuing.{values_in}
 use Rattle.gp_log.specs.Logs.{log_view}
 use Rattle.gp_machine.specs.Entries.{versions_in}
@@ -8,8 +8,8 @@ use Rattle.gp_history.specs.Keeping.{Reaches}
 use Rattle.gp_history.proofs.ProvingLemmas.{needed_within}
 use Rattle.gp_history.proofs.valuing.kept_values.Goals as goal
 
-pub annotated_to-requires-clause-within : goal.annotated_to-requires-clause-within
-annotated_to-requires-clause-within g c =
+pub valued_to-requires-clause-within : goal.valued_to-requires-clause-within
+valued_to-requires-clause-within g c =
     let entries = log_view c.args.log.now.entries in
     subst (λ (v : ℕ). v ≤ versions_in entries) (sym c.needed_version.ensures) (needed_within entries (point_view c.args.state) c.requires.known)
 

@@ -1,7 +1,6 @@
-use Rattle.std.proofs.Common.{Err, Global, List, Ok, Vec, ap, arith, map, subst, sym, ℕ, ◌≤◌, ◌∙◌}
+use Rattle.std.proofs.Common.{Err, Global, Ok, Vec, ap, arith, map, subst, sym, ℕ, ◌≤◌, ◌∙◌}
 use Rattle.gp_algebra.specs.AnnotatedQueries.{Program}
 use Rattle.gp_algebra.specs.Views.{select_view}
-use Rattle.gp_base.specs.Annotated.{monomials}
 use Rattle.gp_kexec.specs.declared.env.KRow.{KRow}
 use Rattle.gp_kexec.specs.Rows.{pair_view}
 use Rattle.gp_kexec.specs.Running.{IsSomeProgram}
@@ -9,20 +8,17 @@ use Rattle.gp_kexec.specs.Valuing.{values_in}
 use Rattle.gp_log.specs.Parameters.{parameters}
 use Rattle.gp_log.specs.LogFacts.{tables_in}
 use Rattle.gp_log.specs.Logs.{log_view}
-use Rattle.gp_machine.specs.Entries.{log_of, versions_in}
-use Rattle.gp_machine.specs.Questions.{annotation_stop}
-use Rattle.gp_reenact.specs.declared.error.ReenactStop.{ReenactStop}
+use Rattle.gp_machine.specs.Entries.{versions_in}
+use Rattle.gp_base.specs.declared.stop.Stop.{Stop}
 use Rattle.gp_reenact.specs.Reenacting.{spans_of, stopped, transaction_at}
 use Rattle.gp_syntax.specs.Views.{point_view}
 use Rattle.gp_semiring.specs.Values.{token_value}
 use Rattle.gp_history.specs.ValueForms.{value_answer}
 use Rattle.gp_history.specs.Agreement.{agree}
 use Rattle.gp_history.specs.Images.{value_in, values_are_images}
-use Rattle.gp_history.specs.Provenance.{AnnotatesOr}
 use Rattle.gp_history.specs.Running.{SumsOver}
-use Rattle.gp_history.specs.SpanAnnotations.{AreAnnotated, versions_with}
+use Rattle.gp_history.specs.SpanAnnotations.{versions_with}
 use Rattle.gp_history.specs.Values.{Gives}
-use Rattle.gp_history.proofs.ProvingLemmas.{needed_within}
 use Rattle.gp_history.proofs.ValuingLemmas.{agree_ignores, found_is, program_is_built, room, stop_is}
 use Rattle.gp_history.proofs.valuing.known_values.Goals as goal
 
@@ -81,7 +77,7 @@ returns g c =
     (room entries versions c.requires.sound few select c.requires.few) in
     let kept = c.args.known.now in
     let sums = subst (λ (program : Program). SumsOver domain k.plus_of view (Err c.in-Err.stop) (versions_with spans kept.annotated) program) c.in_ok-program.ensures c.in-Err.ensures in
-    subst (λ (stop : ReenactStop). Gives view (Err stop) (value_answer parameters k.plus_of k.zero_of k.one_of k.times_of value agree (tables_in entries) entries spans point select))
+    subst (λ (stop : Stop). Gives view (Err stop) (value_answer parameters k.plus_of k.zero_of k.one_of k.times_of value agree (tables_in entries) entries spans point select))
     (sym (c.stopped.ensures ∙ ap (λ (t : ℕ). stopped t c.in-Err.stop) c.transaction_at.ensures))
     (subst (Gives view (Err (stopped (transaction_at point) c.in-Err.stop))) same
     (stop_is domain image k.plus_of entries versions c.requires.sound select c.requires.fits point c.requires.known view kept c.requires.reaches c.in-Err.stop sums))

@@ -10,7 +10,7 @@ use Rattle.gp_reenact.specs.Encoding.{encoded}
 use Rattle.gp_reenact.specs.LookingForms.{EndsInTable, Looks, looked_answer}
 use Rattle.gp_reenact.specs.Reenacting.{spans_of}
 use Rattle.gp_reenact.specs.Travel.{past_environment}
-use Rattle.gp_reenact.specs.declared.error.ReenactStop.{ReenactStop}
+use Rattle.gp_base.specs.declared.stop.Stop.{Stop}
 use Rattle.gp_reenact.proofs.LookingLemmas.{looked_built, looked_found, looked_stopped}
 use Rattle.gp_reenact.proofs.looking.looked.Goals as goal
 
@@ -30,6 +30,6 @@ pub returns : goal.returns
 returns c =
     let entries = log_view c.args.log.now.entries in
     let statement = statement_view c.args.stmt.now in
-    subst (λ (s : ReenactStop). Looks (λ (rows : Vec Row Global). rows.items) (Err s) (looked_answer parameters entries (spans_of c.args.versions.now) c.args.t c.args.before statement)) (sym c.stopped.ensures)
+    subst (λ (s : Stop). Looks (λ (rows : Vec Row Global). rows.items) (Err s) (looked_answer parameters entries (spans_of c.args.versions.now) c.args.t c.args.before statement)) (sym c.stopped.ensures)
     (looked_stopped entries c.args.versions.now c.requires.statement.statements c.requires.spans c.args.t c.args.before statement c.requires.statement.known c.requires.statement.here c.requires.writes (λ (rows : Vec Row Global). rows.items) c.in-Err.stop
     (subst (λ (program : PlainProgram). EndsInTable (λ (rows : Vec Row Global). rows.items) (Err c.in-Err.stop) program (encoded (past_environment unannotated c.args.versions.now))) c.in_ok-planned.ensures.1 c.in-Err.ensures))

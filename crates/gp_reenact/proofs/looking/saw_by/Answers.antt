@@ -11,7 +11,7 @@ use Rattle.gp_reenact.specs.Travel.{past_environment}
 use Rattle.gp_reenact.specs.Backends.{GivesOver, IsGivenOver, ReenactsBy}
 use Rattle.gp_reenact.specs.LookingForms.{saw_program}
 use Rattle.gp_reenact.specs.Reenacting.{stopped}
-use Rattle.gp_reenact.specs.declared.error.ReenactStop.{ReenactStop}
+use Rattle.gp_base.specs.declared.stop.Stop.{Stop}
 use Rattle.gp_reenact.proofs.BackendLemmas.{stop_refused}
 use Rattle.gp_reenact.proofs.LookingLemmas.{known_of, saw_built}
 use Rattle.gp_reenact.proofs.looking.saw_by.Goals as goal
@@ -39,6 +39,6 @@ returns g c =
     let past = encoded (past_environment unannotated c.args.versions.now) in
     let planned = c.in_ok-planned.ensures in
     let over = subst (λ (program : PlainProgram). GivesOver (λ (rows : Vec Row Global). rows.items) gives (Err c.in-Err.stop) program past) planned.1 c.in-Err.ensures in
-    subst (λ (s : ReenactStop). ReenactsBy (λ (rows : Vec Row Global). rows.items) gives (Err s) expected c.args.t program past)
+    subst (λ (s : Stop). ReenactsBy (λ (rows : Vec Row Global). rows.items) gives (Err s) expected c.args.t program past)
     (sym (c.stopped.ensures ∙ ap (λ t. stopped t c.in-Err.stop) c.number_of.ensures))
     (stop_refused (λ (rows : Vec Row Global). rows.items) gives expected c.args.t program past c.in-Err.stop planned.0 over)

@@ -10,7 +10,7 @@ use Rattle.gp_machine.specs.Questions.{log_refusal}
 use Rattle.gp_reenact.specs.Encoding.{encoded}
 use Rattle.gp_reenact.specs.Travel.{past_environment}
 use Rattle.gp_reenact.specs.Backends.{GivesOver, IsGivenOver, ReenactsBy}
-use Rattle.gp_reenact.specs.declared.error.ReenactStop.{ReenactStop}
+use Rattle.gp_base.specs.declared.stop.Stop.{Stop}
 use Rattle.gp_reenact.specs.Reenacting.{stopped, transaction_at}
 use Rattle.gp_reenact.specs.Programs.{merged_at}
 use Rattle.gp_reenact.proofs.BackendLemmas.{stop_refused}
@@ -36,6 +36,6 @@ returns g c =
     let past = encoded (past_environment unannotated c.args.versions.now) in
     let planned = c.in_ok-plain.ensures in
     let over = subst (λ (program : PlainProgram). GivesOver (λ (rows : Vec Row Global). rows.items) gives (Err c.in-Err.stop) program past) planned.1 c.in-Err.ensures in
-    subst (λ (s : ReenactStop). ReenactsBy (λ (rows : Vec Row Global). rows.items) gives (Err s) expected (transaction_at (point_view c.args.state)) program past)
+    subst (λ (s : Stop). ReenactsBy (λ (rows : Vec Row Global). rows.items) gives (Err s) expected (transaction_at (point_view c.args.state)) program past)
     (sym (c.stopped.ensures ∙ ap (λ t. stopped t c.in-Err.stop) c.transaction_at.ensures))
     (stop_refused (λ (rows : Vec Row Global). rows.items) gives expected (transaction_at (point_view c.args.state)) program past c.in-Err.stop planned.0 over)

@@ -21,15 +21,15 @@ returns-in_ok-move_to-in-Some c =
     let t = c.args.t in
     let statement = statement_view c.in-Some.stmt.now in
     let next : old.ran + 1 ≡ suc old.ran = omega arith in
-    let own : own_statement t (entry_view c.args.entry.now) ≡ Some statement = sym c.in-Some.ensures in
-    let here : statement_at t (suc old.ran) entries ≡ Some statement = c.requires.here statement own in
+    let found : own_statement t (entry_view c.args.entry.now) ≡ Some statement = sym c.in-Some.ensures in
+    let here : statement_at t (suc old.ran) entries ≡ Some statement = c.requires.here statement found in
     let now : c.version_read_by-now.result ≡ statement_version t (suc old.ran) entries = c.version_read_by-now.ensures ∙ ap (λ k. statement_version t k entries) next in
     let moved : IsMoved (width_of tables) log t old.ran (length tables) (parts_view c.move_to.new.self) =
     c.in_ok-move_to-in-Some.ensures.moved (width_of tables) log t (length tables) now c.requires.composed in
     let ran : c.move_to.new.self.ran ≡ old.ran = c.in_ok-move_to-in-Some.ensures.ran in
     on_ok_weaker c.add.result
     (λ adds.
-    subst (λ k. IsComposed (width_of tables) log t k (length tables) (parts_view c.add.new.self)) (ap suc ran ∙ ap (λ (o : Option Statement). ran_more o old.ran) (sym own))
+    subst (λ k. IsComposed (width_of tables) log t k (length tables) (parts_view c.add.new.self)) (ap suc ran ∙ ap (λ (o : Option Statement). ran_more o old.ran) (sym found))
     (subst (λ (list : List Table). IsComposed (width_of list) log t (suc c.move_to.new.self.ran) (length list) (parts_view c.add.new.self)) c.catalog.ensures
     (adds log (ap (λ k. statement_at t (suc k) entries) ran ∙ here)
     (subst (λ (list : List Table). IsMoved (width_of list) log t c.move_to.new.self.ran (length list) (parts_view c.move_to.new.self)) (sym c.catalog.ensures)
