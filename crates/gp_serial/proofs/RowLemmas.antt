@@ -1,0 +1,19 @@
+-- Lists of rows of different lengths differ.
+use Rattle.std.proofs.Common.{◌≡◌, ◌≢◌, suc, false, length, List, [], ◌∷◌, refl, ap}
+use Rattle.std.specs.Cmp.Lexicographic.{slice_cmp}
+use Rattle.std.specs.Ordering.{is_eq, ordering_then}
+use Rattle.std.specs.declared.cmp.Ordering.{Ordering}
+use Rattle.std.specs.declared.cmp.Ordering.TheVariants.{Less, Equal, Greater}
+use Rattle.gp_base.specs.declared.cell.Cell.{Cell}
+use Rattle.gp_base.specs.Order.{row_cmp}
+
+pub lengths_differ : (xs ys : List (List Cell)) → length xs ≢ length ys → is_eq (slice_cmp row_cmp xs ys) ≡ false
+lengths_differ [] [] other = absurd (other refl)
+lengths_differ [] (y ∷ ys) other = refl
+lengths_differ (x ∷ xs) [] other = refl
+lengths_differ (x ∷ xs) (y ∷ ys) other = by (row_cmp x y) (lengths_differ xs ys (λ same. other (ap suc same)))
+  where
+    by : (o : Ordering) → is_eq (slice_cmp row_cmp xs ys) ≡ false → is_eq (ordering_then o (slice_cmp row_cmp xs ys)) ≡ false
+    by Less rest = refl
+    by Equal rest = rest
+    by Greater rest = refl

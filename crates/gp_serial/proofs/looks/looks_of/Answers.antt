@@ -1,0 +1,20 @@
+use Rattle.std.proofs.Common.{◌≡◌, true, subst, sym}
+use Rattle.gp_algebra.specs.Fitting.{statement_fits}
+use Rattle.gp_algebra.specs.Views.{statement_view}
+use Rattle.gp_algebra.specs.declared.statement.Stmt.{Stmt}
+use Rattle.gp_serial.specs.LookViews.{AreSimpleWheres}
+use Rattle.gp_serial.proofs.LookLemmas.{simple_insert, simple_read}
+use Rattle.gp_serial.proofs.looks.looks_of.Goals as goal
+
+pub query_looks-requires : goal.query_looks-requires
+query_looks-requires c =
+    let tables = c.args.catalog.now in
+    subst AreSimpleWheres (sym c.as_slice.ensures)
+    (simple_insert tables c.in-InsertSelect.table c.in-InsertSelect.select.branches
+    (subst (λ (stmt : Stmt). statement_fits tables (statement_view stmt) ≡ true) c.in-InsertSelect.is c.requires))
+
+pub query_looks-requires-in-Read : goal.query_looks-requires-in-Read
+query_looks-requires-in-Read c =
+    let tables = c.args.catalog.now in
+    subst AreSimpleWheres (sym c.as_slice-in-Read.ensures)
+    (simple_read tables c.in-Read.select.branches (subst (λ (stmt : Stmt). statement_fits tables (statement_view stmt) ≡ true) c.in-Read.is c.requires))

@@ -1,0 +1,6 @@
+use Rattle.std.proofs.Common.{◌≡◌, take}
+use Rattle.gp_serial.proofs.running.unmarked.Given as goal
+
+-- the first cells are copied
+abbrev pub invariant-loop-i : goal.invariant-loop-i
+invariant-loop-i l = l.own ≡ take l.i l.row

@@ -1,0 +1,14 @@
+pub mod Changes
+pub mod Comparing
+pub mod CycleForms
+pub mod Graphs
+pub mod LeastCycles
+pub mod LookViews
+pub mod Meetings
+pub mod Preceding
+pub mod Reasons
+pub mod Relations
+pub mod Running
+pub mod SerialLogs
+pub mod SerialViews
+pub mod Serializing

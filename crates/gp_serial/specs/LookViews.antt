@@ -1,0 +1,26 @@
+-- Of the contracts of `looks_of` and `meets`: the looks of the code as those of the history machine.
+use Rattle.std.specs.Prelude.{◌≡◌, true, List, [], length, map, Option}
+use Rattle.std.specs.List.{AllByRecursion}
+use Rattle.std.specs.Option.{option_map, option_map_or}
+use Rattle.gp_expr.specs.ExpressionForms.{cond_is_simple}
+use Rattle.gp_expr.specs.Expressions as e
+use Rattle.gp_expr.specs.Views.{cond_view}
+use Rattle.gp_expr.specs.declared.expr.Cond.{Cond}
+use Rattle.gp_algebra.specs.declared.statement.Branch.{Branch}
+use Rattle.gp_machine.specs.Looks as m
+use Rattle.gp_machine.specs.Looks.{members}
+use Rattle.gp_serial.specs.declared.looks.Look.{Look}
+
+abbrev pub look_view : Look → m.Look
+look_view look = record { table = look.table; before = length look.before.items; conds = map (λ c. cond_view c.now) look.conds.items }
+
+-- the members of a WHERE
+abbrev pub members_of : Option Cond → List e.Cond
+members_of cond = option_map_or members (option_map cond_view cond) []
+
+-- the condition of a WHERE is simple, as those of checked statements are
+abbrev pub IsSimpleWhere : Option Cond → Type 0
+IsSimpleWhere cond = option_map_or (λ c. cond_is_simple (cond_view c)) cond true ≡ true
+
+abbrev pub AreSimpleWheres : List Branch → Type 0
+AreSimpleWheres = AllByRecursion (λ (branch : Branch). IsSimpleWhere branch.cond)
