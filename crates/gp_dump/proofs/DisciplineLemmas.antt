@@ -8,8 +8,6 @@ use Rattle.gp_base.specs.declared.limit.Limit.TheVariants as limit
 use Rattle.gp_base.specs.declared.refusal.Refusal.{Refusal}
 use Rattle.gp_base.specs.declared.refusal.Refusal.TheVariants.{E10, E14}
 use Rattle.gp_base.specs.declared.table.Table.{Table}
-use Rattle.gp_base.specs.Catalogs.{place_of}
-use Rattle.gp_check.specs.Faults.{table_refusal}
 use Rattle.gp_grammar.specs.Syntax as y
 use Rattle.gp_grammar.specs.Syntax.{is_statement}
 use Rattle.gp_machine.specs.Actions.{Runs, allowed}
@@ -31,7 +29,7 @@ use Rattle.gp_dump.specs.Reading.{ended}
 
 -- ---- the transaction of a session
 
-take-one : {A : Type 0} (xs : List A) (n : ℕ) (x : A) → slice_get xs n ≡ Some x → take (suc n) xs ≡ take n xs ++ x ∷ []
+pub take-one : {A : Type 0} (xs : List A) (n : ℕ) (x : A) → slice_get xs n ≡ Some x → take (suc n) xs ≡ take n xs ++ x ∷ []
 take-one [] n x found = absurd cc
 take-one (y ∷ ys) zero x found = let same : y ≡ x = cc in ap (λ z. z ∷ []) same
 take-one (y ∷ ys) (suc n) x found = ap (λ zs. y ∷ zs) (take-one ys n x found)
@@ -134,14 +132,6 @@ newest-line entries count next e all is found =
 pub ruleset session_steps = (of-another, of-itself, at-begin, at-end)
 
 -- ---- entries
-
--- the name of a new table that is not refused is new
-pub unrefused-new : (tables : List Table) (table : Table) → table_refusal tables table ≡ None → place_of table.name tables ≡ None
-unrefused-new tables table none = by (place_of table.name tables) refl none
-  where
-    by : (place : Option ℕ) → place_of table.name tables ≡ place → table_refusal tables table ≡ None → place ≡ None
-    by None is none = refl
-    by (Some n) is none = absurd (let some = rw is at none in cc)
 
 -- a statement is run in a transaction, and in no other place
 pub statement-waits : (command : y.Command) → is_statement command ≡ true → allowed {A = ℕ} None command ≡ Err E10

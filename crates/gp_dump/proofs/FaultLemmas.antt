@@ -2,7 +2,7 @@
 use Rattle.std.proofs.Common.{◌≡◌, ℕ, zero, suc, ◌+◌, ◌<◌, ◌≤◌, Bool, true, false, cond, ltb, leb, List, [], ◌∷◌, length, reverse, Option, Some, None, Result, Ok, Err, inl, inr, refl, sym, ap, subst, ◌∙◌, arith}
 use Rattle.std.specs.Prelude.{◌==◌, slice_get}
 use Rattle.std.specs.Str.{bytes_eq, is_utf8}
-use Rattle.std.proofs.lemmas.Bool.{cases_Bool, false≢true, leb-false, leb-true, le-leb, lt-ltb, ltb-false, ltb-true, le-ltb}
+use Rattle.std.proofs.lemmas.Bool.{cases_Bool, false≢true, leb-false, leb-true, lt-ltb, ltb-false, ltb-true, le-ltb}
 use Rattle.std.proofs.lemmas.Slice.Eq.{bytes_eq-Decides}
 use Rattle.gp_base.specs.declared.cell.Cell.{Cell}
 use Rattle.gp_base.specs.declared.table.Table.{Table}
@@ -23,10 +23,10 @@ use Rattle.gp_dumpline.proofs.SaidLaws.{is-said, said-is, said-takes}
 use Rattle.gp_dumpline.proofs.SpanLaws.{line-span, span-line}
 use Rattle.gp_dump.specs.Dumps.{Dump, IsRow, fits_columns, is_in_place, spans_in}
 use Rattle.gp_dump.specs.WholeDumps.{AreReadable}
-use Rattle.gp_dump.specs.Lines.{Line, Whole, Cut, Missing, lines_of, onto}
+use Rattle.gp_dump.specs.Lines.{DumpLine, Whole, Cut, Missing, lines_of, onto}
 use Rattle.gp_dump.specs.Rules as r
 use Rattle.gp_dump.specs.Rules.{Due, Header, Count, Logs, Sections, Rows, Nothing, Breaks, FaultIn, FirstFault, IsBetween, IsLogLine, IsNextTable, KeepRules, Leads, LineBreaks, WellFormed, ended, flaw_rule, followed, here, later}
-use Rattle.gp_dump.specs.Verdicts.{◌>>=◌, Verdict, Holds, Fails, after_text, end_rule, end_verdict, fault_in, first_fault, header_line, log_rule, next_section, nothing_line, row_line, row_rule, rule, rule_holds, rule_next, section_line, section_rule, text_of, then_verdict, verdict, verdict_on}
+use Rattle.gp_dump.specs.Verdicts.{◌>>=◌, Verdict, Holds, Fails, after_text, end_verdict, fault_in, first_fault, header_line, log_rule, next_section, nothing_line, row_line, row_rule, rule, rule_holds, rule_next, section_line, section_rule, text_of, then_verdict, verdict, verdict_on}
 use Rattle.gp_dump.proofs.LineLemmas.{line-laws, log-lawful}
 use Rattle.gp_dump.proofs.RoundTrip.{AreLawful, IsEntry, TableLaws}
 
@@ -227,13 +227,13 @@ header-answer text (Some second) e = (r.names_format second text (header-takes t
 -- ---- lines
 
 -- the last line is not ended by a line feed, and a missing one is the last
-abbrev IsOpen : List Line → Type 0
+abbrev IsOpen : List DumpLine → Type 0
 IsOpen [] = ⊥
 IsOpen (Whole text ∷ lines) = IsOpen lines
 IsOpen (Cut text ∷ lines) = Unit {0}
 IsOpen (Missing ∷ lines) = lines ≡ []
 
-onto-opens : (byte : ℕ) (lines : List Line) → IsOpen lines → IsOpen (onto byte lines)
+onto-opens : (byte : ℕ) (lines : List DumpLine) → IsOpen lines → IsOpen (onto byte lines)
 onto-opens byte [] opens = tt
 onto-opens byte (Whole text ∷ lines) opens = opens
 onto-opens byte (Cut text ∷ lines) opens = tt
@@ -248,7 +248,7 @@ lines-opens (byte ∷ bytes) = by (byte == 10) (lines-opens bytes)
     by false rest = onto-opens byte (lines_of bytes) rest
 
 -- what a line comes to
-abbrev IsLineAnswer : Due → Line → Result Due ℕ → Type 0
+abbrev IsLineAnswer : Due → DumpLine → Result Due ℕ → Type 0
 IsLineAnswer due line (Ok next) = (text : List ℕ) × (line ≡ Whole text) × (Leads due text next × IsSound next)
 IsLineAnswer due line (Err f) = LineBreaks due line f
 
@@ -256,7 +256,7 @@ whole-answer : (due : Due) (text : List ℕ) (o : Result Due ℕ) → is_utf8 te
 whole-answer due text (Ok next) utf8 is = (text, refl, is)
 whole-answer due text (Err f) utf8 is = r.breaks due text f utf8 is
 
-header-line : (line : Line) → IsLineAnswer Header line (header_line line)
+header-line : (line : DumpLine) → IsLineAnswer Header line (header_line line)
 header-line (Whole text) = by (is_utf8 text) refl
   where
     by : (b : Bool) → is_utf8 text ≡ b → IsLineAnswer Header (Whole text) (cond b (rule 2 (header_of text) >>= (λ second. Ok (Count second))) (Err 1))
@@ -273,7 +273,7 @@ header-line (Cut text) = by (is_utf8 text) refl
     by false utf8 = r.no_cut_text Header text utf8
 header-line Missing = r.missing Header (λ dump e. cc)
 
-text-line : (due : Due) (line : Line) → (due ≡ Header → ⊥) → ((dump : Dump) → due ≡ Nothing dump → ⊥) → IsSound due → IsLineAnswer due line (text_of line >>= after_text due)
+text-line : (due : Due) (line : DumpLine) → (due ≡ Header → ⊥) → ((dump : Dump) → due ≡ Nothing dump → ⊥) → IsSound due → IsLineAnswer due line (text_of line >>= after_text due)
 text-line due (Whole text) other more sound = by (is_utf8 text) refl
   where
     by : (b : Bool) → is_utf8 text ≡ b → IsLineAnswer due (Whole text) (cond b (Ok text) (Err 1) >>= after_text due)
@@ -289,28 +289,28 @@ text-line due Missing other more sound = r.missing due more
 -- ---- what the verdict says
 
 -- the lines are the dump of the verdict, or have its fault first
-abbrev IsVerdictOn : List Line → Due → ℕ → Verdict → Type 0
+abbrev IsVerdictOn : List DumpLine → Due → ℕ → Verdict → Type 0
 IsVerdictOn lines due number (Holds dump) = KeepRules lines due dump
 IsVerdictOn lines due number (Fails f at) = FaultIn lines due number f at
 
 -- the verdict on the lines after one that keeps the rules
-one-more : (text : List ℕ) (lines : List Line) (due next : Due) (number : ℕ) (v : Verdict) → Leads due text next → IsVerdictOn lines next (number + 1) v → IsVerdictOn (Whole text ∷ lines) due number v
+one-more : (text : List ℕ) (lines : List DumpLine) (due next : Due) (number : ℕ) (v : Verdict) → Leads due text next → IsVerdictOn lines next (number + 1) v → IsVerdictOn (Whole text ∷ lines) due number v
 one-more text lines due next number (Holds dump) leads rest = followed text lines due next dump leads rest
 one-more text lines due next number (Fails f at) leads rest = later text lines due next number f at leads rest
 
 -- the verdict on the lines after a line
-abbrev Later : List Line → ℕ → Type 0
+abbrev Later : List DumpLine → ℕ → Type 0
 Later lines number = (next : Due) → IsOpen lines → IsSound next → IsVerdictOn lines next number (verdict lines next number)
 
-then-verdict : (line : Line) (lines : List Line) (due : Due) (number : ℕ) (o : Result Due ℕ) → IsOpen (line ∷ lines) → Later lines (number + 1) → IsLineAnswer due line o
+then-verdict : (line : DumpLine) (lines : List DumpLine) (due : Due) (number : ℕ) (o : Result Due ℕ) → IsOpen (line ∷ lines) → Later lines (number + 1) → IsLineAnswer due line o
     → IsVerdictOn (line ∷ lines) due number (then_verdict o number (λ next. verdict lines next (number + 1)))
 then-verdict line lines due number (Err f) opens more is = here line lines due number f is
 then-verdict line lines due number (Ok next) opens more is =
-    let rest : IsOpen lines = subst (λ (l : Line). IsOpen (l ∷ lines)) is.1 opens in
-    subst (λ (l : Line). IsVerdictOn (l ∷ lines) due number (verdict lines next (number + 1))) (sym is.1)
+    let rest : IsOpen lines = subst (λ (l : DumpLine). IsOpen (l ∷ lines)) is.1 opens in
+    subst (λ (l : DumpLine). IsVerdictOn (l ∷ lines) due number (verdict lines next (number + 1))) (sym is.1)
     (one-more is.0 lines due next number (verdict lines next (number + 1)) is.2.0 (more next rest is.2.1))
 
-ends-verdict : (line : Line) (lines : List Line) (dump : Dump) (number : ℕ) → IsOpen (line ∷ lines) → IsVerdictOn (line ∷ lines) (Nothing dump) number (end_verdict (nothing_line line) number dump)
+ends-verdict : (line : DumpLine) (lines : List DumpLine) (dump : Dump) (number : ℕ) → IsOpen (line ∷ lines) → IsVerdictOn (line ∷ lines) (Nothing dump) number (end_verdict (nothing_line line) number dump)
 ends-verdict (Whole text) lines dump number opens = by (is_utf8 text) refl
   where
     by : (b : Bool) → is_utf8 text ≡ b → IsVerdictOn (Whole text ∷ lines) (Nothing dump) number (end_verdict (cond b (Err 14) (Err 1)) number dump)
@@ -321,9 +321,9 @@ ends-verdict (Cut text) lines dump number opens = by (is_utf8 text) refl
     by : (b : Bool) → is_utf8 text ≡ b → IsVerdictOn (Cut text ∷ lines) (Nothing dump) number (end_verdict (cond b (Err 3) (Err 1)) number dump)
     by true utf8 = here (Cut text) lines (Nothing dump) number 3 (r.unended (Nothing dump) text utf8 (λ header_due. absurd cc))
     by false utf8 = here (Cut text) lines (Nothing dump) number 1 (r.no_cut_text (Nothing dump) text utf8)
-ends-verdict Missing lines dump number opens = subst (λ (l : List Line). KeepRules (Missing ∷ l) (Nothing dump) dump) (sym opens) (ended dump)
+ends-verdict Missing lines dump number opens = subst (λ (l : List DumpLine). KeepRules (Missing ∷ l) (Nothing dump) dump) (sym opens) (ended dump)
 
-verdict-in : (lines : List Line) (number : ℕ) → Later lines number
+verdict-in : (lines : List DumpLine) (number : ℕ) → Later lines number
 unfolding verdict
 verdict-in [] number next opens sound = absurd opens
 verdict-in (line ∷ lines) number Header opens sound = then-verdict line lines Header number (header_line line) opens (verdict-in lines (number + 1)) (header-line line)
@@ -354,19 +354,13 @@ fault-found bytes f line e = verdict-on bytes (Fails f line) (verdict-fault byte
 
 -- ---- where the rules say that a dump fails, or is one, the verdict says so
 
-not-within : (a b : ℕ) → (a ≤ b → ⊥) → leb a b ≡ false
-not-within a b never = elim (cases_Bool (leb a b)) [
-  | inl most ↦ absurd (never (leb-true a b most))
-  | inr other ↦ other
-]
-
 -- no value is read from a text
 unread : {T : Type 0} (o : Option T) → ((x : T) → o ≡ Some x → ⊥) → o ≡ None
 unread None never = refl
 unread (Some x) never = absurd (never x refl)
 
 -- a line that has a text, where the next table or the end is due
-section-verdict : (due : Due) (log : List Entry) (tables : List (List Span)) (text : List ℕ) (o : Result Due ℕ) (lines : List Line) (number : ℕ) → IsBetween due log tables → is_utf8 text ≡ true
+section-verdict : (due : Due) (log : List Entry) (tables : List (List Span)) (text : List ℕ) (o : Result Due ℕ) (lines : List DumpLine) (number : ℕ) → IsBetween due log tables → is_utf8 text ≡ true
     → next_section log tables text ≡ o → verdict (Whole text ∷ lines) due number ≡ then_verdict o number (λ next. verdict lines next (number + 1))
 unfolding verdict after_text
 section-verdict _ _ _ text o lines number (r.logged second log) utf8 e = rw (utf8, e) refl
@@ -375,7 +369,7 @@ section-verdict _ _ _ text o lines number (r.filled log tables rows) utf8 e = rw
 
 record IsFollowed (due : Due) (text : List ℕ) (next : Due) : Type 0 where
   sound : IsSound next
-  verdict_is : (lines : List Line) (number : ℕ) → verdict (Whole text ∷ lines) due number ≡ verdict lines next (number + 1)
+  verdict_is : (lines : List DumpLine) (number : ℕ) → verdict (Whole text ∷ lines) due number ≡ verdict lines next (number + 1)
 
 utf8-as : (text other : List ℕ) → text ≡ other → is_utf8 other ≡ true → is_utf8 text ≡ true
 utf8-as text other same is = ap is_utf8 same ∙ is
@@ -486,7 +480,7 @@ misplaced log tables rows table text cells kept next line fits never =
     let fit : fits_columns table.cols read.span.row ≡ true = ap (fits_columns table.cols) read.cells ∙ fits in
     misplaced-by log rows table text read.span (table-lawful log tables table kept next) read.is fit never (is_in_place (versions_in log) rows read.span) refl
 
-breaks-verdict : (due : Due) (text : List ℕ) (f : ℕ) → Breaks due text f → IsSound due → is_utf8 text ≡ true → (lines : List Line) (number : ℕ) → verdict (Whole text ∷ lines) due number ≡ Fails f number
+breaks-verdict : (due : Due) (text : List ℕ) (f : ℕ) → Breaks due text f → IsSound due → is_utf8 text ≡ true → (lines : List DumpLine) (number : ℕ) → verdict (Whole text ∷ lines) due number ≡ Fails f number
 unfolding verdict after_text row_rule
 breaks-verdict _ _ _ (r.no_format text never) sound utf8 lines number =
     let none : header_of text ≡ None = unread (header_of text) (λ second e. never second (header-takes text second e)) in rw (utf8, none) refl
@@ -532,7 +526,7 @@ breaks-header _ _ _ (r.is_misplaced left log tables rows table text cells next l
 breaks-header _ _ _ (r.no_end due log tables text standing none never) e = absurd (between-header log tables due standing e)
 breaks-header _ _ _ (r.goes_on dump text) e = absurd cc
 
-module _ (lines : List Line) (number : ℕ) where
+module _ (lines : List DumpLine) (number : ℕ) where
   never-text : (due : Due) (text : List ℕ) → is_utf8 text ≡ false → verdict (Whole text ∷ lines) due number ≡ Fails 1 number
   unfolding verdict
   never-text Header text e = rw e refl
@@ -569,7 +563,7 @@ module _ (lines : List Line) (number : ℕ) where
   missing (Rows left log tables rows) other = refl
   missing (Nothing dump) other = absurd (other dump refl)
 
-  line-breaks : (due : Due) (line : Line) (f : ℕ) → LineBreaks due line f → IsSound due → verdict (line ∷ lines) due number ≡ Fails f number
+  line-breaks : (due : Due) (line : DumpLine) (f : ℕ) → LineBreaks due line f → IsSound due → verdict (line ∷ lines) due number ≡ Fails f number
   unfolding verdict
   line-breaks _ _ _ (r.no_text due text e) sound = never-text due text e
   line-breaks _ _ _ (r.no_cut_text due text e) sound = never-cut-text due text e
@@ -578,7 +572,7 @@ module _ (lines : List Line) (number : ℕ) where
   line-breaks _ _ _ (r.unended due text utf8 named) sound = unended due text utf8 named
   line-breaks _ _ _ (r.missing due other) sound = missing due other
 
-fault-fails : (lines : List Line) (due : Due) (number f at : ℕ) → FaultIn lines due number f at → IsSound due → verdict lines due number ≡ Fails f at
+fault-fails : (lines : List DumpLine) (due : Due) (number f at : ℕ) → FaultIn lines due number f at → IsSound due → verdict lines due number ≡ Fails f at
 fault-fails _ _ _ _ _ (here line lines due number f is) sound = line-breaks lines number due line f is sound
 fault-fails _ _ _ _ _ (later text lines due next number f at leads rest) sound =
     let k = leads-followed due text next leads sound in
@@ -590,7 +584,7 @@ fault-is bytes f line is = ap fault_in (fault-fails (lines_of bytes) Header 1 f 
 
 -- ---- lines that all keep the rules
 
-kept-holds : (lines : List Line) (due : Due) (dump : Dump) (number : ℕ) → KeepRules lines due dump → IsSound due → verdict lines due number ≡ Holds dump
+kept-holds : (lines : List DumpLine) (due : Due) (dump : Dump) (number : ℕ) → KeepRules lines due dump → IsSound due → verdict lines due number ≡ Holds dump
 unfolding verdict
 kept-holds _ _ _ number (ended dump) sound = refl
 kept-holds _ _ _ number (followed text lines due next dump leads rest) sound =

@@ -105,7 +105,7 @@ log_fits (Ended line session end t ∷ older) log readable = log_fits older log.
 
 -- ---- row versions
 
-user_cell : (k : Kind) (x : Cell) → is_of_kind k x ≡ true → is_user_cell x ≡ true
+pub user_cell : (k : Kind) (x : Cell) → is_of_kind k x ≡ true → is_user_cell x ≡ true
 user_cell k cell.Null is = refl
 user_cell kind.Int (cell.Int number) is = is
 user_cell kind.Int (cell.Text text) is = absurd (true≢false (sym is))

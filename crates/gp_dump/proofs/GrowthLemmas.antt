@@ -1,6 +1,6 @@
 -- What one more entry, and one more table, adds to what was read.
 use Rattle.std.proofs.Common.{◌≡◌, ℕ, ◌+◌, true, List, [], ◌∷◌, ◌++◌, length, map, reverse, refl, sym, ap, subst, ◌∙◌, arith}
-use Rattle.std.proofs.lemmas.List.{length-map, length-reverse, map-append, reverse-append}
+use Rattle.std.proofs.lemmas.List.{map-append, reverse-append}
 use Rattle.std.proofs.lemmas.List.Folds.{list_all-append}
 use Rattle.std.proofs.lemmas.List.Sums.{sum_by-cons}
 use Rattle.gp_base.specs.declared.table.Table.{Table}
@@ -49,8 +49,5 @@ spans-pushed versions table =
     let more : spans_in (table.spans ∷ tables_before versions) ≡ length table.spans + spans_in (tables_before versions) =
     sum_by-cons (λ (n : ℕ). n) (length table.spans) (map (λ (spans : List Span). length spans) (tables_before versions)) in
     omega (arith, first, more)
-
-pub tables-counted : (versions : List Versions) → length (tables_before versions) ≡ length versions
-tables-counted versions = length-reverse (tables_view versions) ∙ length-map versions (λ (t : Versions). t.spans)
 
 pub ruleset table_steps = (tables-pushed, spans-pushed)

@@ -35,6 +35,7 @@ use Rattle.gp_dump.proofs.LoggedLines.{all_logged}
 use Rattle.gp_dump.proofs.RowPlaces.{all_in_place, sorted_length, spans_begin}
 use Rattle.gp_dump.proofs.StepKinds.{Fits, FitsRow}
 use Rattle.std.proofs.lemmas.Bool.{ltb-true}
+use Rattle.gp_dump.proofs.DisciplineLemmas.{take-one}
 
 -- ---- the check passes only statements whose table is there
 
@@ -80,14 +81,6 @@ tables_more versions [] (other ∷ lists) table spans all one = absurd all
 tables_more versions (other ∷ tables) [] table spans all one = absurd all
 tables_more versions (other ∷ tables) (first ∷ lists) table spans all one = (all.0, tables_more versions tables lists table spans all.1 one)
 
-take_one_more : {X : Type 0} (xs : List X) (n : ℕ) (x : X) → slice_get xs n ≡ Some x → take (suc n) xs ≡ take n xs ++ x ∷ []
-take_one_more [] n x e = cc
-take_one_more (y ∷ xs) zero x e = ap (λ z. z ∷ []) (same e)
-  where
-    same : Some y ≡ Some x → y ≡ x
-    same e = cc
-take_one_more (y ∷ xs) (suc n) x e = ap (λ zs. y ∷ zs) (take_one_more xs n x e)
-
 module _ {M : Type 0} (domain : Annotations M) (state : State M) (reached : IsReached domain parameters state) (fitting : Fitting state) where
   spans_fit : (table : ℕ) → AllByRecursion (λ (span : Span). Fits state.catalogue table span.id span.row) (state_spans state table)
   spans_fit table =
@@ -108,7 +101,7 @@ module _ {M : Type 0} (domain : Annotations M) (state : State M) (reached : IsRe
           → AreOfTables (take place state.catalogue) (versions_in state.entries) (map (sorted_by span_cmp) (spans_in_order state place))
           → AreOfTables (take (suc place) state.catalogue) (versions_in state.entries) (map (sorted_by span_cmp) (spans_in_order state (suc place)))
       go (inl there) before =
-          subst (λ tables. AreOfTables tables (versions_in state.entries) (map (sorted_by span_cmp) (spans_in_order state (suc place)))) (sym (take_one_more state.catalogue place there.0 there.2))
+          subst (λ tables. AreOfTables tables (versions_in state.entries) (map (sorted_by span_cmp) (spans_in_order state (suc place)))) (sym (take-one state.catalogue place there.0 there.2))
           (subst (AreOfTables (take place state.catalogue ++ there.0 ∷ []) (versions_in state.entries)) (sym (map-append (sorted_by span_cmp) (spans_in_order state place) (state_spans state place ∷ [])))
           (tables_more (versions_in state.entries) (take place state.catalogue) (map (sorted_by span_cmp) (spans_in_order state place)) there.0 (sorted_by span_cmp (state_spans state place)) before (one_table place there.0 there.2)))
       go (inr past) before = let p = past.0 in absurd (omega arith)

@@ -25,7 +25,8 @@ use Rattle.gp_dump.proofs.PlaceLemmas.{Follows, in-place-apart, rows-follow}
 use Rattle.gp_dump.proofs.FaultLemmas.{kept-found, kept-is}
 use Rattle.gp_dump.proofs.LineLemmas.{line-laws, log-lawful}
 use Rattle.gp_dump.proofs.RoundTrip.{read-well-formed, well-formed-read}
-use Rattle.gp_dump.proofs.SortLemmas.{IsAscending, IsLowerBound, span_cmp_total}
+use Rattle.gp_dump.proofs.SortLemmas.{IsAscending, IsLowerBound}
+use Rattle.gp_versions.proofs.OrderLemmas.{span_cmp_total}
 
 -- ---- the round trip
 

@@ -45,6 +45,7 @@ use Rattle.gp_dump.specs.WholeDumps.{AreReadable}
 use Rattle.gp_dump.proofs.PlaceLemmas.{place-end, place-last}
 use Rattle.gp_dump.specs.Verdicts.{◌>>=◌, log_rule, row_rule, rule, rule_holds, rule_next, section_rule}
 use Rattle.gp_dump.proofs.RoundTrip.{AreLawful, IsEntry, LineLaws, LogsAreLawful, TableLaws}
+use Rattle.gp_dump.proofs.FittingTables.{user_cell}
 
 -- ---- the steps of a rule
 
@@ -205,20 +206,6 @@ readable-cell kind.Text (cell.Mark mark) is = absurd (false≢true is)
 readable-cell kind.Int (cell.Mono monomial) is = absurd (false≢true is)
 readable-cell kind.Text (cell.Mono monomial) is = absurd (false≢true is)
 
-user-cell : (kind : Kind) (c : Cell) → is_of_kind kind c ≡ true → is_user_cell c ≡ true
-user-cell kind.Int cell.Null is = refl
-user-cell kind.Text cell.Null is = refl
-user-cell kind.Int (cell.Int number) is = is
-user-cell kind.Text (cell.Int number) is = absurd (false≢true is)
-user-cell kind.Int (cell.Text text) is = absurd (false≢true is)
-user-cell kind.Text (cell.Text text) is = is
-user-cell kind.Int (cell.Id id) is = absurd (false≢true is)
-user-cell kind.Text (cell.Id id) is = absurd (false≢true is)
-user-cell kind.Int (cell.Mark mark) is = absurd (false≢true is)
-user-cell kind.Text (cell.Mark mark) is = absurd (false≢true is)
-user-cell kind.Int (cell.Mono monomial) is = absurd (false≢true is)
-user-cell kind.Text (cell.Mono monomial) is = absurd (false≢true is)
-
 all-cells : (f : Cell → Bool) → ((kind : Kind) (c : Cell) → is_of_kind kind c ≡ true → f c ≡ true) → (cols : List Column) (cells : List Cell) → fits_columns cols cells ≡ true → list_all f cells ≡ true
 all-cells f holds [] [] is = refl
 all-cells f holds [] (c ∷ cells) is = absurd (false≢true is)
@@ -292,7 +279,7 @@ table-laws table versions named few = record {
   section = λ n few-rows. section-one_line table.name n named.name few-rows;
   section_again = section-again table;
   section_taken = section-taken table;
-  row = λ before span is. span-one_line span (row-form table versions before span named few is) (all-cells is_user_cell user-cell table.cols span.row is.cells);
+  row = λ before span is. span-one_line span (row-form table versions before span named few is) (all-cells is_user_cell user_cell table.cols span.row is.cells);
   row_again = λ before span. row-again table versions before span named few;
   row_taken = λ before text span. row-taken table.cols versions before text span few;
 }

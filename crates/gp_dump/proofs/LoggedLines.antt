@@ -24,16 +24,15 @@ use Rattle.gp_machine.specs.Reached.{IsReached}
 use Rattle.gp_machine.specs.State.{Active, State, start, with_value}
 use Rattle.gp_log.specs.declared.limit.TheConstants.{MAX_LINE}
 use Rattle.gp_log.specs.Discipline as d
-use Rattle.gp_log.specs.Discipline.{Does, Disorder, Flaw, IsLog, IsNext, Loses, Said, Unchecked, command_entry, last_line, next_entry, said_by, transaction_in}
+use Rattle.gp_log.specs.Discipline.{Does, Disorder, IsLog, IsNext, Loses, command_entry, last_line, next_entry, said_by, transaction_in}
 use Rattle.gp_log.specs.LogFacts.{tables_in}
 use Rattle.gp_dumpline.specs.Forms.{said_of}
 use Rattle.gp_dumpline.specs.Texts.{said_text}
 use Rattle.gp_dump.specs.WholeDumps.{AreReadable}
 use Rattle.gp_log.specs.ScriptLines.{AreScriptLines, IsLineAfter}
 use Rattle.gp_log.proofs.LineCommands.{reads-parsed}
-use Rattle.gp_dumpline.proofs.SaidLaws.{said-is}
+use Rattle.gp_dumpline.proofs.SaidLaws.{said-is, command-said}
 use Rattle.gp_dump.proofs.AlongLines.{along}
-use Rattle.gp_dump.proofs.ReadCommands.{read_said}
 use Rattle.std.proofs.lemmas.Bool.{eqb-true}
 use Rattle.gp_base.proofs.SmallLemmas.{some_none}
 
@@ -115,7 +114,7 @@ module _ {M : Type 0} (domain : Annotations M) (parameters : Parameters) (state 
       (ap (λ t. command_entry parameters state.entries number session (allowed t (y.create table))) (runs None e)
       ∙ ap (λ tables. if nat_le parameters.tables (length tables) then Err Disorder else d.creation_entry parameters state.entries number session table (parameters.created tables table)) logged.tables
       ∙ go (nat_le parameters.tables (length state.catalogue)) (parameters.created state.catalogue table) f)
-      (read_said (y.create table) read) (still None (runs None e)) (unchanged None e) (ap (λ tables. tables ++ table ∷ []) logged.tables)
+      (command-said (y.create table) read) (still None (runs None e)) (unchanged None e) (ap (λ tables. tables ++ table ∷ []) logged.tables)
     where
       go : (b : Bool) (o : Option Refusal) → (if b then Some (E14 limit.Tables) else o) ≡ None → (if b then Err Disorder else d.creation_entry parameters state.entries number session table o) ≡ Ok (Created number session table)
       go true o f = absurd (some_none (E14 limit.Tables) f)
@@ -136,7 +135,7 @@ module _ {M : Type 0} (domain : Annotations M) (parameters : Parameters) (state 
       refl refl refl
       (ap (λ t. command_entry parameters state.entries number session (allowed t (y.begin read_committed))) (runs None e)
       ∙ ap (λ b. if b then Err Disorder else Ok (Began number session (suc (transactions_in state.entries)) read_committed)) f)
-      (read_said (y.begin read_committed) read) (λ n. refl) (λ n. refl) logged.tables
+      (command-said (y.begin read_committed) read) (λ n. refl) (λ n. refl) logged.tables
 
   module _ (active : Active M) (e : state.active session ≡ Some active) where
     run_it : (command : Command) → allowed (Some active.transaction) command ≡ Ok (Runs active.transaction command) → command_of (command_text command) ≡ Ok command → (refusal : Option Refusal) → count_refusal parameters active.statements (statements_in state.entries) ≡ refusal
@@ -158,7 +157,7 @@ module _ {M : Type 0} (domain : Annotations M) (parameters : Parameters) (state 
         go : (o : Option Refusal) → Logged parameters line.number (ran domain state number session active command statement o).0
         go (Some refusal) = same
         go None =
-            enter (accepted domain state number session active command statement) (Ran number session command active.transaction statement) _ refl refl refl follows (read_said command read)
+            enter (accepted domain state number session active command statement) (Ran number session command active.transaction statement) _ refl refl refl follows (command-said command read)
             (still (Some active.transaction) (runs (Some active) e)) (λ n. refl) logged.tables
 
     commit_it : command_of (command_text y.Command.commit) ≡ Ok y.Command.commit → (lost : Option Conflict) (full : Bool) → Logged parameters line.number (committing state number session active lost full).0
@@ -167,12 +166,12 @@ module _ {M : Type 0} (domain : Annotations M) (parameters : Parameters) (state 
     commit_it read None true = same
     commit_it read None false =
         enter (published state number session active) (Committed number session active.transaction) None refl refl refl
-        (ap (λ t. command_entry parameters state.entries number session (allowed t y.Command.commit)) (runs (Some active) e)) (read_said y.Command.commit read) (λ n. refl) (λ n. refl) logged.tables
+        (ap (λ t. command_entry parameters state.entries number session (allowed t y.Command.commit)) (runs (Some active) e)) (command-said y.Command.commit read) (λ n. refl) (λ n. refl) logged.tables
 
     rollback_it : command_of (command_text y.rollback) ≡ Ok y.rollback → Logged parameters line.number (ended state number session active RolledBack)
     rollback_it read =
         enter (ended state number session active RolledBack) (Ended number session RolledBack active.transaction) None refl refl refl
-        (ap (λ t. command_entry parameters state.entries number session (allowed t y.rollback)) (runs (Some active) e)) (read_said y.rollback read) (λ n. refl) (λ n. refl) logged.tables
+        (ap (λ t. command_entry parameters state.entries number session (allowed t y.rollback)) (runs (Some active) e)) (command-said y.rollback read) (λ n. refl) (λ n. refl) logged.tables
 
     checks : (command : Command) → allowed (Some active.transaction) command ≡ Ok (Runs active.transaction command) → command_of (command_text command) ≡ Ok command → Logged parameters line.number (answered domain parameters state number session (Some active) (Run command)).0
     checks command a read = run_it command a read (count_refusal parameters active.statements (statements_in state.entries)) refl (parameters.checked state.catalogue command) refl

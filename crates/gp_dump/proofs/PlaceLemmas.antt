@@ -2,8 +2,7 @@
 use Rattle.std.proofs.Common.{◌≡◌, ◌⊎◌, inl, inr, ℕ, ◌<◌, ◌≤◌, Bool, true, false, ◌||◌, List, [], ◌∷◌, Option, Some, None, IsSomeAnd, refl, sym, ap, subst, ◌∙◌, arith, leb, ltb}
 use Rattle.std.specs.List.{AllByRecursion}
 use Rattle.std.specs.Ordering.{is_eq, is_lt}
-use Rattle.std.specs.declared.cmp.Ordering.{Ordering}
-use Rattle.std.specs.declared.cmp.Ordering.TheVariants.{Less, Equal, Greater}
+use Rattle.std.specs.declared.cmp.Ordering.TheVariants.{Less}
 use Rattle.std.proofs.lemmas.Bool.{false≢true, leb-true, ltb-true, and_parts}
 use Rattle.gp_base.specs.declared.table.Column.{Column}
 use Rattle.gp_base.specs.Identities.{identity_cmp, same_identity}
@@ -14,17 +13,13 @@ use Rattle.gp_versions.specs.declared.span.Span.{Span}
 use Rattle.gp_versions.specs.TableSpans.{AreWhole, IsApart, IsEndAbove, NoOverlap}
 use Rattle.gp_dump.specs.Dumps.{ends_within, has_ended_by, is_after, is_in_place, is_next}
 use Rattle.gp_dump.specs.WholeDumps.{AreInPlace}
+use Rattle.gp_base.proofs.MonomialLemmas.{less_is}
 
 -- ---- tests
 
 either-true : (a b : Bool) → (a || b) ≡ true → (a ≡ true) ⊎ (b ≡ true)
 either-true true b is = inl refl
 either-true false b is = inr is
-
-less-is : (o : Ordering) → is_lt o ≡ true → o ≡ Less
-less-is Less is = refl
-less-is Equal is = absurd (false≢true is)
-less-is Greater is = absurd (false≢true is)
 
 -- ---- the order of row lines
 
@@ -38,7 +33,7 @@ ended-by (Some to) version is = leb-true to version is
 
 pub follows-after : (last span : Span) → is_after last span ≡ true → Follows last span
 follows-after last span is = elim (either-true (is_lt (identity_cmp last.id span.id)) _ is) [
-  | inl less ↦ inl (less-is (identity_cmp last.id span.id) less)
+  | inl less ↦ inl (less_is (identity_cmp last.id span.id) less)
   | inr later ↦
       let a = and_parts (same_identity last.id span.id) _ later in
       let b = and_parts (ltb last.from span.from) _ a.1 in
@@ -64,9 +59,6 @@ follows-apart first later (inr later-is) same = later-is.1.1
 all-follow : (last span : Span) (spans : List Span) → Follows last span → AllByRecursion (Follows span) spans → AllByRecursion (Follows last) spans
 all-follow last span [] first all = tt
 all-follow last span (next ∷ spans) first all = (follows-trans last span next first all.0, all-follow last span spans first all.1)
-
-pub place-first : (versions : ℕ) (before : List Span) (span : Span) → is_in_place versions before span ≡ true → leb 1 span.from ≡ true
-place-first versions before span is = (and_parts (leb 1 span.from) _ is).0
 
 pub place-last : (versions : ℕ) (before : List Span) (span : Span) → is_in_place versions before span ≡ true → leb span.from versions ≡ true
 place-last versions before span is = (and_parts (leb span.from versions) _ (and_parts (leb 1 span.from) _ is).1).0

@@ -16,7 +16,7 @@ use Rattle.gp_dump.specs.declared.error.DumpStop.{DumpStop}
 use Rattle.gp_dump.specs.declared.error.LineStop.{LineStop}
 use Rattle.gp_dump.specs.declared.error.LineStop.TheVariants as stop
 use Rattle.gp_dump.specs.Dumps.{Dump, spans_in}
-use Rattle.gp_dump.specs.Lines.{Line, Whole, Cut, Missing, lines_of}
+use Rattle.gp_dump.specs.Lines.{DumpLine, Whole, Cut, Missing, lines_of}
 use Rattle.gp_dump.specs.Reading.{AreDue, Continues, LineFails, Stops, behind, stop_at, takes_text, verdict_from}
 use Rattle.gp_dump.specs.Rules.{Due, Header, Count, Logs, Sections, Rows, Nothing}
 use Rattle.gp_dump.specs.Verdicts.{◌>>=◌, Verdict, Holds, Fails, after_text, cols_of, end_verdict, header_line, log_rule, nothing_line, row_rule, rule, section_rule, text_of, then_verdict, verdict}
@@ -35,9 +35,9 @@ whole (Nothing dump) text bytes number takes utf8 = absurd cc
 
 pub text-whole : (all : List ℕ) (due : Due) (text bytes : List ℕ) (number : ℕ) → lines_of all ≡ Whole text ∷ lines_of bytes → takes_text due ≡ true → is_utf8 text ≡ true
     → verdict_from all due number ≡ then_verdict (after_text due text) number (λ next. verdict_from bytes next (number + 1))
-text-whole all due text bytes number is takes utf8 = ap (λ (x : List Line). verdict x due number) is ∙ whole due text bytes number takes utf8
+text-whole all due text bytes number is takes utf8 = ap (λ (x : List DumpLine). verdict x due number) is ∙ whole due text bytes number takes utf8
 
-bad : (due : Due) (line : Line) (lines : List Line) (number f : ℕ) → takes_text due ≡ true → text_of line ≡ Err f → verdict (line ∷ lines) due number ≡ Fails f number
+bad : (due : Due) (line : DumpLine) (lines : List DumpLine) (number f : ℕ) → takes_text due ≡ true → text_of line ≡ Err f → verdict (line ∷ lines) due number ≡ Fails f number
 unfolding verdict
 bad Header line lines number f takes e = absurd cc
 bad (Count second) line lines number f takes e = rw e refl
@@ -46,9 +46,9 @@ bad (Sections log tables) line lines number f takes e = rw e refl
 bad (Rows left log tables rows) line lines number f takes e = rw e refl
 bad (Nothing dump) line lines number f takes e = absurd cc
 
-pub text-bad : (all : List ℕ) (due : Due) (line : Line) (lines : List Line) (number f : ℕ) → lines_of all ≡ line ∷ lines → text_of line ≡ Err f → takes_text due ≡ true
+pub text-bad : (all : List ℕ) (due : Due) (line : DumpLine) (lines : List DumpLine) (number f : ℕ) → lines_of all ≡ line ∷ lines → text_of line ≡ Err f → takes_text due ≡ true
     → verdict_from all due number ≡ Fails f number
-text-bad all due line lines number f is e takes = ap (λ (x : List Line). verdict x due number) is ∙ bad due line lines number f takes e
+text-bad all due line lines number f is e takes = ap (λ (x : List DumpLine). verdict x due number) is ∙ bad due line lines number f takes e
 
 pub ruleset text_steps = (text-whole, text-bad)
 
@@ -82,7 +82,7 @@ entry-fails second left next log text (stop.Rule f) number rest whole answer is 
     rw told (at ∙ e)
 entry-fails second left next log text stop.NoMemory number rest whole answer is told at fails = rw told tt
 
-logs-settled : (second : Bool) (lines : List Line) (log : List Entry) (number : ℕ) → verdict lines (Logs second 0 log) number ≡ verdict lines (Sections log []) number
+logs-settled : (second : Bool) (lines : List DumpLine) (log : List Entry) (number : ℕ) → verdict lines (Logs second 0 log) number ≡ verdict lines (Sections log []) number
 unfolding verdict after_text
 logs-settled second [] log number = refl
 logs-settled second (line ∷ lines) log number = refl
@@ -117,7 +117,7 @@ row-fails cols versions left next log tables rows text (stop.Rule f) number rest
     rw told (at ∙ e)
 row-fails cols versions left next log tables rows text stop.NoMemory number rest whole answer is due told at fails = rw told tt
 
-rows-settled : (lines : List Line) (log : List Entry) (tables : List (List Span)) (rows : List Span) (number : ℕ)
+rows-settled : (lines : List DumpLine) (log : List Entry) (tables : List (List Span)) (rows : List Span) (number : ℕ)
     → verdict lines (Rows 0 log tables rows) number ≡ verdict lines (Sections log (reverse rows ∷ tables)) number
 unfolding verdict after_text
 rows-settled [] log tables rows number = refl
@@ -160,24 +160,24 @@ cut-no text second e = elim (cases_Bool (is_utf8 text)) [
   | inr u ↦ let f = rw u at e in cc
 ]
 
-pub header-ok : (all bytes : List ℕ) (line : Line) (second : Bool) (number : ℕ) → lines_of all ≡ line ∷ behind line bytes → header_line line ≡ Ok (Count second)
+pub header-ok : (all bytes : List ℕ) (line : DumpLine) (second : Bool) (number : ℕ) → lines_of all ≡ line ∷ behind line bytes → header_line line ≡ Ok (Count second)
     → verdict_from all Header number ≡ verdict_from bytes (Count second) (number + 1)
 unfolding verdict
-header-ok all bytes (Whole text) second number is e = ap (λ (x : List Line). verdict x Header number) is ∙ ap (λ (x : Result Due ℕ). then_verdict x number (λ next. verdict_from bytes next (number + 1))) e
+header-ok all bytes (Whole text) second number is e = ap (λ (x : List DumpLine). verdict x Header number) is ∙ ap (λ (x : Result Due ℕ). then_verdict x number (λ next. verdict_from bytes next (number + 1))) e
 header-ok all bytes (Cut text) second number is e = absurd (cut-no text second e)
 header-ok all bytes Missing second number is e = absurd cc
 
-pub header-bad : (all : List ℕ) (line : Line) (lines : List Line) (number f : ℕ) → lines_of all ≡ line ∷ lines → header_line line ≡ Err f → verdict_from all Header number ≡ Fails f number
+pub header-bad : (all : List ℕ) (line : DumpLine) (lines : List DumpLine) (number f : ℕ) → lines_of all ≡ line ∷ lines → header_line line ≡ Err f → verdict_from all Header number ≡ Fails f number
 unfolding verdict
-header-bad all line lines number f is e = ap (λ (x : List Line). verdict x Header number) is ∙ ap (λ (x : Result Due ℕ). then_verdict x number (λ next. verdict lines next (number + 1))) e
+header-bad all line lines number f is e = ap (λ (x : List DumpLine). verdict x Header number) is ∙ ap (λ (x : Result Due ℕ). then_verdict x number (λ next. verdict lines next (number + 1))) e
 
-pub nothing-ok : (all : List ℕ) (line : Line) (lines : List Line) (number : ℕ) (dump : Dump) → lines_of all ≡ line ∷ lines → nothing_line line ≡ Ok tt → verdict_from all (Nothing dump) number ≡ Holds dump
+pub nothing-ok : (all : List ℕ) (line : DumpLine) (lines : List DumpLine) (number : ℕ) (dump : Dump) → lines_of all ≡ line ∷ lines → nothing_line line ≡ Ok tt → verdict_from all (Nothing dump) number ≡ Holds dump
 unfolding verdict
-nothing-ok all line lines number dump is e = ap (λ (x : List Line). verdict x (Nothing dump) number) is ∙ ap (λ (x : Result (Unit {0}) ℕ). end_verdict x number dump) e
+nothing-ok all line lines number dump is e = ap (λ (x : List DumpLine). verdict x (Nothing dump) number) is ∙ ap (λ (x : Result (Unit {0}) ℕ). end_verdict x number dump) e
 
-pub nothing-bad : (all : List ℕ) (line : Line) (lines : List Line) (number f : ℕ) (dump : Dump) → lines_of all ≡ line ∷ lines → nothing_line line ≡ Err f → verdict_from all (Nothing dump) number ≡ Fails f number
+pub nothing-bad : (all : List ℕ) (line : DumpLine) (lines : List DumpLine) (number f : ℕ) (dump : Dump) → lines_of all ≡ line ∷ lines → nothing_line line ≡ Err f → verdict_from all (Nothing dump) number ≡ Fails f number
 unfolding verdict
-nothing-bad all line lines number f dump is e = ap (λ (x : List Line). verdict x (Nothing dump) number) is ∙ ap (λ (x : Result (Unit {0}) ℕ). end_verdict x number dump) e
+nothing-bad all line lines number f dump is e = ap (λ (x : List DumpLine). verdict x (Nothing dump) number) is ∙ ap (λ (x : Result (Unit {0}) ℕ). end_verdict x number dump) e
 
 pub ruleset end_steps = (header-ok, header-bad, nothing-ok, nothing-bad)
 

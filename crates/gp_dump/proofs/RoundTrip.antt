@@ -24,9 +24,9 @@ use Rattle.gp_dumpline.proofs.SaidLaws.{is-said, said-is}
 use Rattle.gp_dump.specs.Dumps.{Dump, IsRow, has_read_committed, with_newline, sections_texts, spans_in, texts_of}
 use Rattle.gp_dump.specs.Writing.{section_texts}
 use Rattle.gp_dump.specs.WholeDumps.{AreInPlace, AreOfTables, AreReadable, IsDump, IsTextOf}
-use Rattle.gp_dump.specs.Lines.{Line, Whole, Cut, Missing, lines_of, onto as put}
+use Rattle.gp_dump.specs.Lines.{DumpLine, Whole, Cut, Missing, lines_of, onto as put}
 use Rattle.gp_dump.specs.Rules.{Due, Header, Count, Logs, Sections, Rows, Nothing}
-use Rattle.gp_dump.specs.Verdicts.{◌>>=◌, Verdict, Holds, Fails, after_text, end_verdict, header_line, log_rule, nothing_line, row_rule, rule, rule_holds, section_rule, text_of, then_verdict, verdict, verdict_on}
+use Rattle.gp_dump.specs.Verdicts.{◌>>=◌, Verdict, Holds, Fails, after_text, end_verdict, log_rule, nothing_line, row_rule, rule, rule_holds, section_rule, text_of, then_verdict, verdict, verdict_on}
 use Rattle.gp_dump.proofs.FormatLemmas.{AreSaidIn, format-said, said-format}
 
 -- ---- items put in front of a list one after another, so that the last is first
@@ -35,7 +35,7 @@ abbrev pub onto : {T : Type 0} → List T → List T → List T
 onto [] behind = behind
 onto (x ∷ xs) behind = onto xs (x ∷ behind)
 
-abbrev pub whole_lines : List (List ℕ) → List Line
+abbrev pub whole_lines : List (List ℕ) → List DumpLine
 whole_lines texts = map (λ (text : List ℕ). Whole text) texts
 
 -- ---- what is needed of single lines
@@ -74,7 +74,7 @@ pub record TableLaws (table : Table) (versions : ℕ) : Type 0 where
 
 -- ---- what is written is read
 
-pub logs-again : (laws : LineLaws) (second : Bool) (entries log : List Entry) (number : ℕ) (rest : List Line) → Follow second log entries
+pub logs-again : (laws : LineLaws) (second : Bool) (entries log : List Entry) (number : ℕ) (rest : List DumpLine) → Follow second log entries
     → verdict (whole_lines (map entry_text entries) ++ rest) (Logs second (length entries) log) number ≡ verdict rest (Sections (onto entries log) []) (number + length entries)
 unfolding verdict after_text
 logs-again laws second [] log number [] all = ap (λ (n : ℕ). Fails 3 n) (omega arith)
@@ -84,7 +84,7 @@ logs-again laws second (entry ∷ entries) log number rest all =
     step ∙ logs-again laws second entries (entry ∷ log) (number + 1) rest all.1 ∙ ap (λ (n : ℕ). verdict rest (Sections (onto entries (entry ∷ log)) []) n) (omega arith)
 
 pub rows-again : (table : Table) (log : List Entry) (tables : List (List Span)) (laws : TableLaws table (versions_in log)) → slice_get (tables_in log) (length tables) ≡ Some table
-    → (spans rows : List Span) (number : ℕ) (rest : List Line) → AreInPlace table.cols (versions_in log) rows spans
+    → (spans rows : List Span) (number : ℕ) (rest : List DumpLine) → AreInPlace table.cols (versions_in log) rows spans
     → verdict (whole_lines (map span_text spans) ++ rest) (Rows (length spans) log tables rows) number ≡ verdict rest (Sections log (reverse (onto spans rows) ∷ tables)) (number + length spans)
 unfolding verdict after_text
 rows-again table log tables laws is [] rows number [] all = ap (λ (n : ℕ). Fails 3 n) (omega arith)
@@ -147,7 +147,7 @@ made-one log tables table others spans behind = record {
   count = length-append behind.made (table ∷ []) ∙ omega (arith, behind.count);
 }
 
-section-again : (log : List Entry) (tables : List (List Span)) (table : Table) (laws : TableLaws table (versions_in log)) (spans : List Span) (number : ℕ) (rest : List Line)
+section-again : (log : List Entry) (tables : List (List Span)) (table : Table) (laws : TableLaws table (versions_in log)) (spans : List Span) (number : ℕ) (rest : List DumpLine)
     → slice_get (tables_in log) (length tables) ≡ Some table → spans_in tables + length spans ≤ MAX_SPANS → AreInPlace table.cols (versions_in log) [] spans
     → verdict (whole_lines (section_texts table spans) ++ rest) (Sections log tables) number ≡ verdict rest (Sections log (spans ∷ tables)) ((number + 1) + length spans)
 unfolding verdict after_text
@@ -155,15 +155,15 @@ section-again log tables table laws spans number rest is few all =
     let step : verdict (whole_lines (section_texts table spans) ++ rest) (Sections log tables) number ≡ verdict (whole_lines (map span_text spans) ++ rest) (Rows (length spans) log tables []) (number + 1) = rw ((laws.section (length spans) (omega (arith, few))).utf8, is, laws.section_again (spans_in tables) (length spans) few) refl in
     step ∙ rows-again table log tables laws is spans [] (number + 1) rest all ∙ ap (λ (xs : List Span). verdict rest (Sections log (xs ∷ tables)) ((number + 1) + length spans)) (reverse-onto spans)
 
-abbrev pub last_lines : List Line → List Line
+abbrev pub last_lines : List DumpLine → List DumpLine
 last_lines more = Whole end_text ∷ Missing ∷ more
 
-end-again : (laws : LineLaws) (log : List Entry) (tables : List (List Span)) (number : ℕ) (more : List Line) → slice_get (tables_in log) (length tables) ≡ None
+end-again : (laws : LineLaws) (log : List Entry) (tables : List (List Span)) (number : ℕ) (more : List DumpLine) → slice_get (tables_in log) (length tables) ≡ None
     → verdict (last_lines more) (Sections log tables) number ≡ Holds (record { entries = log; tables = reverse tables })
 unfolding verdict after_text
 end-again laws log tables number more is = rw (laws.end.utf8, is) refl
 
-pub sections-again : (laws : LineLaws) (log : List Entry) (others : List Table) (left tables : List (List Span)) (number : ℕ) (more : List Line)
+pub sections-again : (laws : LineLaws) (log : List Entry) (others : List Table) (left tables : List (List Span)) (number : ℕ) (more : List DumpLine)
     → AreLawful others (versions_in log) → AreBehind log tables others → spans_in tables + spans_in left ≤ MAX_SPANS → AreOfTables others (versions_in log) left
     → verdict (whole_lines (sections_texts others left) ++ last_lines more) (Sections log tables) number ≡ Holds (record { entries = log; tables = reverse (onto left tables) })
 sections-again laws log [] [] tables number more lawful behind few all = end-again laws log tables number more (is-last log tables behind)
@@ -173,18 +173,18 @@ sections-again laws log (table ∷ others) (spans ∷ left) tables number more l
     let sum : spans_in (spans ∷ left) ≡ length spans + spans_in left = spans_in-cons spans left in
     let sum-tables : spans_in (spans ∷ tables) ≡ length spans + spans_in tables = spans_in-cons spans tables in
     let split : whole_lines (sections_texts (table ∷ others) (spans ∷ left)) ++ last_lines more ≡ whole_lines (section_texts table spans) ++ (whole_lines (sections_texts others left) ++ last_lines more) =
-    ap (λ (lines : List Line). lines ++ last_lines more) (map-append (λ (text : List ℕ). Whole text) (section_texts table spans) (sections_texts others left)) ∙ append_assoc (whole_lines (section_texts table spans)) (whole_lines (sections_texts others left)) (last_lines more) in
-    ap (λ (lines : List Line). verdict lines (Sections log tables) number) split
+    ap (λ (lines : List DumpLine). lines ++ last_lines more) (map-append (λ (text : List ℕ). Whole text) (section_texts table spans) (sections_texts others left)) ∙ append_assoc (whole_lines (section_texts table spans)) (whole_lines (sections_texts others left)) (last_lines more) in
+    ap (λ (lines : List DumpLine). verdict lines (Sections log tables) number) split
     ∙ section-again log tables table lawful.0 spans number (whole_lines (sections_texts others left) ++ last_lines more) (is-next log tables table others behind) (omega (arith, few, sum)) all.0
     ∙ sections-again laws log others left (spans ∷ tables) ((number + 1) + length spans) more lawful.1 (made-one log tables table others spans behind) (omega (arith, few, sum, sum-tables)) all.1
 
 -- ---- the whole
 
-count-again : (laws : LineLaws) (second : Bool) (n number : ℕ) (rest : List Line) → n ≤ MAX_ENTRIES → verdict (Whole (count_text n) ∷ rest) (Count second) number ≡ verdict rest (Logs second n []) (number + 1)
+count-again : (laws : LineLaws) (second : Bool) (n number : ℕ) (rest : List DumpLine) → n ≤ MAX_ENTRIES → verdict (Whole (count_text n) ∷ rest) (Count second) number ≡ verdict rest (Logs second n []) (number + 1)
 unfolding verdict after_text
 count-again laws second n number rest few = rw ((laws.count n few).utf8, laws.count_again n few) refl
 
-header-again : (laws : LineLaws) (second : Bool) (number : ℕ) (rest : List Line) → verdict (Whole (header second) ∷ rest) Header number ≡ verdict rest (Count second) (number + 1)
+header-again : (laws : LineLaws) (second : Bool) (number : ℕ) (rest : List DumpLine) → verdict (Whole (header second) ∷ rest) Header number ≡ verdict rest (Count second) (number + 1)
 unfolding verdict
 header-again laws second number rest = rw ((laws.header second).utf8, header_form-again second) refl
 
@@ -226,20 +226,20 @@ said-from second [] log all are = are
 said-from second (entry ∷ entries) log all are = said-from second entries (entry ∷ log) all.1 (all.0.format, are)
 
 -- the lines of a dump with these entries, the oldest first, and these tables; then others
-abbrev pub lines_for : Bool → List Entry → List Table → List (List Span) → List Line → List Line
+abbrev pub lines_for : Bool → List Entry → List Table → List (List Span) → List DumpLine → List DumpLine
 lines_for second entries others tables more =
     Whole (header second) ∷ Whole (count_text (length entries)) ∷ (whole_lines (map entry_text entries) ++ (whole_lines (sections_texts others tables) ++ last_lines more))
 
-pub texts-lines : (second : Bool) (dump : Dump) (more : List Line) → whole_lines (texts_of second dump) ++ Missing ∷ more ≡ lines_for second (reverse dump.entries) (tables_in dump.entries) dump.tables more
+pub texts-lines : (second : Bool) (dump : Dump) (more : List DumpLine) → whole_lines (texts_of second dump) ++ Missing ∷ more ≡ lines_for second (reverse dump.entries) (tables_in dump.entries) dump.tables more
 texts-lines second dump more =
     let entries : List (List ℕ) = map entry_text (reverse dump.entries) in
     let sections : List (List ℕ) = sections_texts (tables_in dump.entries) dump.tables in
     let one : whole_lines (entries ++ (sections ++ end_text ∷ [])) ≡ whole_lines entries ++ whole_lines (sections ++ end_text ∷ []) = map-append (λ (text : List ℕ). Whole text) entries (sections ++ end_text ∷ []) in
     let two : whole_lines (sections ++ end_text ∷ []) ≡ whole_lines sections ++ Whole end_text ∷ [] = map-append (λ (text : List ℕ). Whole text) sections (end_text ∷ []) in
     let three : whole_lines (entries ++ (sections ++ end_text ∷ [])) ++ Missing ∷ more ≡ whole_lines entries ++ (whole_lines sections ++ last_lines more) =
-    ap (λ (lines : List Line). lines ++ Missing ∷ more) one ∙ append_assoc (whole_lines entries) (whole_lines (sections ++ end_text ∷ [])) (Missing ∷ more)
-    ∙ ap (λ (lines : List Line). whole_lines entries ++ lines) (ap (λ (lines : List Line). lines ++ Missing ∷ more) two ∙ append_assoc (whole_lines sections) (Whole end_text ∷ []) (Missing ∷ more)) in
-    ap (λ (lines : List Line). Whole (header second) ∷ Whole (count_text (length dump.entries)) ∷ lines) three
+    ap (λ (lines : List DumpLine). lines ++ Missing ∷ more) one ∙ append_assoc (whole_lines entries) (whole_lines (sections ++ end_text ∷ [])) (Missing ∷ more)
+    ∙ ap (λ (lines : List DumpLine). whole_lines entries ++ lines) (ap (λ (lines : List DumpLine). lines ++ Missing ∷ more) two ∙ append_assoc (whole_lines sections) (Whole end_text ∷ []) (Missing ∷ more)) in
+    ap (λ (lines : List DumpLine). Whole (header second) ∷ Whole (count_text (length dump.entries)) ∷ lines) three
     ∙ ap (λ (n : ℕ). Whole (header second) ∷ Whole (count_text n) ∷ (whole_lines entries ++ (whole_lines sections ++ last_lines more))) (sym (length-reverse dump.entries))
 
 pub all-behind : (log : List Entry) → AreBehind log [] (tables_in log)
@@ -249,7 +249,7 @@ no-spans : spans_in [] ≡ 0
 no-spans = refl
 
 -- a dump is read from its lines
-pub lines-read : (laws : LineLaws) (second : Bool) (dump : Dump) (more : List Line) → AreLawful (tables_in dump.entries) (versions_in dump.entries) → IsDump dump
+pub lines-read : (laws : LineLaws) (second : Bool) (dump : Dump) (more : List DumpLine) → AreLawful (tables_in dump.entries) (versions_in dump.entries) → IsDump dump
     → AreSaidIn second dump.entries → verdict (whole_lines (texts_of second dump) ++ Missing ∷ more) Header 1 ≡ Holds dump
 lines-read laws second dump more lawful is said =
     let entries : List Entry = reverse dump.entries in
@@ -258,8 +258,8 @@ lines-read laws second dump more lawful is said =
     let back : reverse (onto dump.tables []) ≡ dump.tables = reverse-onto dump.tables in
     let follow : Follow second [] entries = follow-from second entries [] (subst (IsLog parameters) (sym log) is.log) (subst AreReadable (sym log) is.commands) (subst (AreSaidIn second) (sym log) said) in
     let few : length entries ≤ MAX_ENTRIES = omega (arith, length-reverse dump.entries, is.few_entries) in
-    let rest : List Line = whole_lines (sections_texts others dump.tables) ++ last_lines more in
-    ap (λ (lines : List Line). verdict lines Header 1) (texts-lines second dump more)
+    let rest : List DumpLine = whole_lines (sections_texts others dump.tables) ++ last_lines more in
+    ap (λ (lines : List DumpLine). verdict lines Header 1) (texts-lines second dump more)
     ∙ header-again laws second 1 (Whole (count_text (length entries)) ∷ (whole_lines (map entry_text entries) ++ rest))
     ∙ count-again laws second (length entries) (1 + 1) (whole_lines (map entry_text entries) ++ rest) few
     ∙ logs-again laws second entries [] ((1 + 1) + 1) rest follow
@@ -279,7 +279,7 @@ ok_is : (x y : Due) → due_ok x ≡ Ok y → x ≡ y
 ok_is x y e = cc
 
 -- a line that was taken, by the function that a rule applies to its text
-pub record TookLine (line : Line) (f : List ℕ → Result Due ℕ) (rest : Due → Verdict) (dump : Dump) : Type 0 where
+pub record TookLine (line : DumpLine) (f : List ℕ → Result Due ℕ) (rest : Due → Verdict) (dump : Dump) : Type 0 where
   pub text : List ℕ
   pub is : line ≡ Whole text
   pub due : Due
@@ -290,7 +290,7 @@ line-text : (text : List ℕ) (f : List ℕ → Result Due ℕ) (number : ℕ) (
 line-text text f number rest dump (Ok due) taken e = record { text = text; is = refl; due = due; taken = taken; holds = e }
 line-text text f number rest dump (Err n) taken e = absurd cc
 
-line-took : (line : Line) (f : List ℕ → Result Due ℕ) (number : ℕ) (rest : Due → Verdict) (dump : Dump) → then_verdict (text_of line >>= f) number rest ≡ Holds dump → TookLine line f rest dump
+line-took : (line : DumpLine) (f : List ℕ → Result Due ℕ) (number : ℕ) (rest : Due → Verdict) (dump : Dump) → then_verdict (text_of line >>= f) number rest ≡ Holds dump → TookLine line f rest dump
 line-took (Whole text) f number rest dump e = elim (cases_Bool (is_utf8 text)) [
   | inl u ↦ let g = rw u at e in line-text text f number rest dump (f text) refl g
   | inr u ↦ let g = rw u at e in absurd (no_fail 1 number dump g)
@@ -306,19 +306,19 @@ bound (Ok x) f due e = (x, refl, ok_is (f x) due e)
 bound (Err n) f due e = absurd cc
 
 -- lines, by the text of the first
-line-is : (line : Line) (text due : List ℕ) (lines rest : List Line) → line ≡ Whole text → text ≡ due → lines ≡ rest → line ∷ lines ≡ Whole due ∷ rest
-line-is line text due lines rest first same more = ap (λ (x : Line). x ∷ lines) (first ∙ ap (λ (x : List ℕ). Whole x) same) ∙ ap (λ (xs : List Line). Whole due ∷ xs) more
+line-is : (line : DumpLine) (text due : List ℕ) (lines rest : List DumpLine) → line ≡ Whole text → text ≡ due → lines ≡ rest → line ∷ lines ≡ Whole due ∷ rest
+line-is line text due lines rest first same more = ap (λ (x : DumpLine). x ∷ lines) (first ∙ ap (λ (x : List ℕ). Whole x) same) ∙ ap (λ (xs : List DumpLine). Whole due ∷ xs) more
 
-pub record TookLogs (second : Bool) (log : List Entry) (left : ℕ) (lines : List Line) (dump : Dump) : Type 0 where
+pub record TookLogs (second : Bool) (log : List Entry) (left : ℕ) (lines : List DumpLine) (dump : Dump) : Type 0 where
   pub entries : List Entry
-  pub rest : List Line
+  pub rest : List DumpLine
   pub number : ℕ
   pub is : lines ≡ whole_lines (map entry_text entries) ++ rest
   pub count : length entries ≡ left
   pub follow : Follow second log entries
   pub after : verdict rest (Sections (onto entries log) []) number ≡ Holds dump
 
-pub logs-taken : (laws : LineLaws) (second : Bool) (left : ℕ) (log : List Entry) (lines : List Line) (number : ℕ) (dump : Dump) → verdict lines (Logs second left log) number ≡ Holds dump → TookLogs second log left lines dump
+pub logs-taken : (laws : LineLaws) (second : Bool) (left : ℕ) (log : List Entry) (lines : List DumpLine) (number : ℕ) (dump : Dump) → verdict lines (Logs second left log) number ≡ Holds dump → TookLogs second log left lines dump
 unfolding verdict after_text
 logs-taken laws second zero log [] number dump e = absurd cc
 logs-taken laws second zero log (line ∷ lines) number dump e = record { entries = []; rest = line ∷ lines; number = number; is = refl; count = refl; follow = tt; after = e }
@@ -338,9 +338,9 @@ logs-taken laws second (suc left) log (line ∷ lines) number dump e =
       after = more.after;
     }
 
-pub record TookRows (cols : List Column) (log : List Entry) (tables : List (List Span)) (rows : List Span) (left : ℕ) (lines : List Line) (dump : Dump) : Type 0 where
+pub record TookRows (cols : List Column) (log : List Entry) (tables : List (List Span)) (rows : List Span) (left : ℕ) (lines : List DumpLine) (dump : Dump) : Type 0 where
   pub spans : List Span
-  pub rest : List Line
+  pub rest : List DumpLine
   pub number : ℕ
   pub is : lines ≡ whole_lines (map span_text spans) ++ rest
   pub count : length spans ≡ left
@@ -348,7 +348,7 @@ pub record TookRows (cols : List Column) (log : List Entry) (tables : List (List
   pub after : verdict rest (Sections log (reverse (onto spans rows) ∷ tables)) number ≡ Holds dump
 
 pub rows-taken : (table : Table) (log : List Entry) (tables : List (List Span)) (laws : TableLaws table (versions_in log)) → slice_get (tables_in log) (length tables) ≡ Some table
-    → (left : ℕ) (rows : List Span) (lines : List Line) (number : ℕ) (dump : Dump) → verdict lines (Rows left log tables rows) number ≡ Holds dump → TookRows table.cols log tables rows left lines dump
+    → (left : ℕ) (rows : List Span) (lines : List DumpLine) (number : ℕ) (dump : Dump) → verdict lines (Rows left log tables rows) number ≡ Holds dump → TookRows table.cols log tables rows left lines dump
 unfolding verdict after_text
 rows-taken table log tables laws is zero rows [] number dump e = absurd cc
 rows-taken table log tables laws is zero rows (line ∷ lines) number dump e = record { spans = []; rest = line ∷ lines; number = number; is = refl; count = refl; follow = tt; after = e }
@@ -370,9 +370,9 @@ rows-taken table log tables laws is (suc left) rows (line ∷ lines) number dump
     }
 
 -- lines that begin with the section of a table
-pub record TookSection (table : Table) (log : List Entry) (tables : List (List Span)) (lines : List Line) (dump : Dump) : Type 0 where
+pub record TookSection (table : Table) (log : List Entry) (tables : List (List Span)) (lines : List DumpLine) (dump : Dump) : Type 0 where
   pub spans : List Span
-  pub rest : List Line
+  pub rest : List DumpLine
   pub number : ℕ
   pub is : lines ≡ whole_lines (section_texts table spans) ++ rest
   pub few : spans_in tables + length spans ≤ MAX_SPANS
@@ -380,7 +380,7 @@ pub record TookSection (table : Table) (log : List Entry) (tables : List (List S
   pub after : verdict rest (Sections log (spans ∷ tables)) number ≡ Holds dump
 
 section-taken : (table : Table) (log : List Entry) (tables : List (List Span)) (laws : TableLaws table (versions_in log)) → slice_get (tables_in log) (length tables) ≡ Some table
-    → (lines : List Line) (number : ℕ) (dump : Dump) → verdict lines (Sections log tables) number ≡ Holds dump → TookSection table log tables lines dump
+    → (lines : List DumpLine) (number : ℕ) (dump : Dump) → verdict lines (Sections log tables) number ≡ Holds dump → TookSection table log tables lines dump
 unfolding verdict after_text
 section-taken table log tables laws is [] number dump e = absurd cc
 section-taken table log tables laws is (line ∷ lines) number dump e =
@@ -399,15 +399,15 @@ section-taken table log tables laws is (line ∷ lines) number dump e =
       after = subst (λ (spans : List Span). verdict more.rest (Sections log (spans ∷ tables)) more.number ≡ Holds dump) (reverse-onto more.spans) more.after;
     }
 
-pub record TookEnd (log : List Entry) (tables : List (List Span)) (lines : List Line) (dump : Dump) : Type 0 where
-  pub more : List Line
+pub record TookEnd (log : List Entry) (tables : List (List Span)) (lines : List DumpLine) (dump : Dump) : Type 0 where
+  pub more : List DumpLine
   pub is : lines ≡ last_lines more
   pub holds : record { entries = log; tables = reverse tables } ≡ dump
 
 held : (a b : Dump) → Holds a ≡ Holds b → a ≡ b
 held a b e = cc
 
-nothing-taken : (line : Line) (number : ℕ) (due dump : Dump) → end_verdict (nothing_line line) number due ≡ Holds dump → (line ≡ Missing) × (due ≡ dump)
+nothing-taken : (line : DumpLine) (number : ℕ) (due dump : Dump) → end_verdict (nothing_line line) number due ≡ Holds dump → (line ≡ Missing) × (due ≡ dump)
 nothing-taken (Whole text) number due dump e = elim (cases_Bool (is_utf8 text)) [ inl u ↦ let g = rw u at e in absurd (no_fail 14 number dump g) | inr u ↦ let g = rw u at e in absurd (no_fail 1 number dump g) ]
 nothing-taken (Cut text) number due dump e = elim (cases_Bool (is_utf8 text)) [ inl u ↦ let g = rw u at e in absurd (no_fail 3 number dump g) | inr u ↦ let g = rw u at e in absurd (no_fail 1 number dump g) ]
 nothing-taken Missing number due dump e = (refl, held due dump e)
@@ -416,14 +416,14 @@ rule_took : (number : ℕ) (b : Bool) (f : Unit {0} → Due) (due : Due) → (ru
 rule_took number true f due e = (refl, ok_is (f tt) due e)
 rule_took number false f due e = absurd cc
 
-lines-nothing : (lines : List Line) (number : ℕ) (due dump : Dump) → verdict lines (Nothing due) number ≡ Holds dump → (more : List Line) × (lines ≡ Missing ∷ more) × (due ≡ dump)
+lines-nothing : (lines : List DumpLine) (number : ℕ) (due dump : Dump) → verdict lines (Nothing due) number ≡ Holds dump → (more : List DumpLine) × (lines ≡ Missing ∷ more) × (due ≡ dump)
 unfolding verdict
 lines-nothing [] number due dump e = absurd cc
 lines-nothing (line ∷ lines) number due dump e =
     let n = nothing-taken line number due dump e in
-    (lines, ap (λ (x : Line). x ∷ lines) n.0, n.1)
+    (lines, ap (λ (x : DumpLine). x ∷ lines) n.0, n.1)
 
-end-taken : (log : List Entry) (tables : List (List Span)) (lines : List Line) (number : ℕ) (dump : Dump) → slice_get (tables_in log) (length tables) ≡ None → verdict lines (Sections log tables) number ≡ Holds dump → TookEnd log tables lines dump
+end-taken : (log : List Entry) (tables : List (List Span)) (lines : List DumpLine) (number : ℕ) (dump : Dump) → slice_get (tables_in log) (length tables) ≡ None → verdict lines (Sections log tables) number ≡ Holds dump → TookEnd log tables lines dump
 unfolding verdict after_text
 end-taken log tables [] number dump is e = absurd cc
 end-taken log tables (line ∷ lines) number dump is e =
@@ -435,15 +435,15 @@ end-taken log tables (line ∷ lines) number dump is e =
     record { more = n.0; is = line-is line t.text end_text lines (Missing ∷ n.0) t.is ((bytes_eq-Decides t.text end_text).0 r.0) n.1; holds = n.2 }
 
 -- lines that begin with the sections of all tables that have none yet, and the last line
-pub record TookSections (others : List Table) (log : List Entry) (tables : List (List Span)) (lines : List Line) (dump : Dump) : Type 0 where
+pub record TookSections (others : List Table) (log : List Entry) (tables : List (List Span)) (lines : List DumpLine) (dump : Dump) : Type 0 where
   pub left : List (List Span)
-  pub more : List Line
+  pub more : List DumpLine
   pub is : lines ≡ whole_lines (sections_texts others left) ++ last_lines more
   pub few : spans_in tables + spans_in left ≤ MAX_SPANS
   pub follow : AreOfTables others (versions_in log) left
   pub holds : record { entries = log; tables = reverse (onto left tables) } ≡ dump
 
-pub sections-taken : (others : List Table) (log : List Entry) (tables : List (List Span)) (lines : List Line) (number : ℕ) (dump : Dump) → AreLawful others (versions_in log) → AreBehind log tables others
+pub sections-taken : (others : List Table) (log : List Entry) (tables : List (List Span)) (lines : List DumpLine) (number : ℕ) (dump : Dump) → AreLawful others (versions_in log) → AreBehind log tables others
     → spans_in tables ≤ MAX_SPANS → verdict lines (Sections log tables) number ≡ Holds dump → TookSections others log tables lines dump
 sections-taken [] log tables lines number dump lawful behind few e =
     let t = end-taken log tables lines number dump (is-last log tables behind) e in
@@ -454,32 +454,32 @@ sections-taken (table ∷ others) log tables lines number dump lawful behind few
     let more = sections-taken others log (t.spans ∷ tables) t.rest t.number dump lawful.1 (made-one log tables table others t.spans behind) (omega (arith, t.few, sum-tables)) t.after in
     let sum : spans_in (t.spans ∷ more.left) ≡ length t.spans + spans_in more.left = spans_in-cons t.spans more.left in
     let split : whole_lines (sections_texts (table ∷ others) (t.spans ∷ more.left)) ++ last_lines more.more ≡ whole_lines (section_texts table t.spans) ++ (whole_lines (sections_texts others more.left) ++ last_lines more.more) =
-    ap (λ (lines : List Line). lines ++ last_lines more.more) (map-append (λ (text : List ℕ). Whole text) (section_texts table t.spans) (sections_texts others more.left)) ∙ append_assoc (whole_lines (section_texts table t.spans)) (whole_lines (sections_texts others more.left)) (last_lines more.more) in
+    ap (λ (lines : List DumpLine). lines ++ last_lines more.more) (map-append (λ (text : List ℕ). Whole text) (section_texts table t.spans) (sections_texts others more.left)) ∙ append_assoc (whole_lines (section_texts table t.spans)) (whole_lines (sections_texts others more.left)) (last_lines more.more) in
     record {
       left = t.spans ∷ more.left;
       more = more.more;
-      is = t.is ∙ ap (λ (lines : List Line). whole_lines (section_texts table t.spans) ++ lines) more.is ∙ sym split;
+      is = t.is ∙ ap (λ (lines : List DumpLine). whole_lines (section_texts table t.spans) ++ lines) more.is ∙ sym split;
       few = omega (arith, more.few, sum, sum-tables);
       follow = (t.follow, more.follow);
       holds = more.holds;
     }
 
 -- a first line that names a format
-record TookHeader (line : Line) (lines : List Line) (number : ℕ) (dump : Dump) : Type 0 where
+record TookHeader (line : DumpLine) (lines : List DumpLine) (number : ℕ) (dump : Dump) : Type 0 where
   second : Bool
   is : line ≡ Whole (header second)
   holds : verdict lines (Count second) (number + 1) ≡ Holds dump
 
-cut_header : (o : Option Bool) (lines : List Line) (number : ℕ) (dump : Dump) → then_verdict (rule 2 o >>= (λ second. Err 3)) number (λ next. verdict lines next (number + 1)) ≡ Holds dump → ⊥
+cut_header : (o : Option Bool) (lines : List DumpLine) (number : ℕ) (dump : Dump) → then_verdict (rule 2 o >>= (λ second. Err 3)) number (λ next. verdict lines next (number + 1)) ≡ Holds dump → ⊥
 cut_header None lines number dump e = no_fail 2 number dump e
 cut_header (Some second) lines number dump e = no_fail 3 number dump e
 
-whole_header : (text : List ℕ) (o : Option Bool) (lines : List Line) (number : ℕ) (dump : Dump) → header_of text ≡ o
+whole_header : (text : List ℕ) (o : Option Bool) (lines : List DumpLine) (number : ℕ) (dump : Dump) → header_of text ≡ o
     → then_verdict (rule 2 o >>= (λ second. Ok (Count second))) number (λ next. verdict lines next (number + 1)) ≡ Holds dump → TookHeader (Whole text) lines number dump
 whole_header text None lines number dump is e = absurd (no_fail 2 number dump e)
 whole_header text (Some second) lines number dump is e = record { second = second; is = ap (λ (x : List ℕ). Whole x) (header-takes text second is); holds = e }
 
-header-taken : (line : Line) (lines : List Line) (number : ℕ) (dump : Dump) → verdict (line ∷ lines) Header number ≡ Holds dump → TookHeader line lines number dump
+header-taken : (line : DumpLine) (lines : List DumpLine) (number : ℕ) (dump : Dump) → verdict (line ∷ lines) Header number ≡ Holds dump → TookHeader line lines number dump
 unfolding verdict
 header-taken (Whole text) lines number dump e = elim (cases_Bool (is_utf8 text)) [
   | inl u ↦ let g = rw u at e in whole_header text (header_of text) lines number dump refl g
@@ -496,9 +496,9 @@ rule_some number None f due e = absurd cc
 rule_some number (Some x) f due e = (x, refl, ok_is (f x) due e)
 
 -- lines that hold a dump are its lines, and the dump keeps the rules
-pub record TookDump (lines : List Line) (dump : Dump) : Type 0 where
+pub record TookDump (lines : List DumpLine) (dump : Dump) : Type 0 where
   pub second : Bool
-  pub more : List Line
+  pub more : List DumpLine
   pub is : lines ≡ whole_lines (texts_of second dump) ++ Missing ∷ more
   pub format : has_read_committed dump.entries ≡ true → second ≡ true
   pub rules : IsDump dump
@@ -506,7 +506,7 @@ pub record TookDump (lines : List Line) (dump : Dump) : Type 0 where
 no-spans-few : spans_in [] ≤ MAX_SPANS
 no-spans-few = omega (arith, no-spans)
 
-pub lines-taken : (laws : LineLaws) (lines : List Line) (dump : Dump) → LogsAreLawful
+pub lines-taken : (laws : LineLaws) (lines : List DumpLine) (dump : Dump) → LogsAreLawful
     → verdict lines Header 1 ≡ Holds dump → TookDump lines dump
 unfolding verdict after_text
 lines-taken laws [] dump lawful e = absurd cc
@@ -532,7 +532,7 @@ lines-taken laws (first ∷ second ∷ lines) dump lawful e =
     line-is first (header h.second) (header h.second) (second ∷ lines) (Whole (count_text (length (reverse log))) ∷ (whole_lines (map entry_text (reverse log)) ++ (whole_lines (sections_texts (tables_in log) s.left) ++ last_lines s.more))) h.is refl
     (line-is second t.text (count_text (length (reverse log))) lines (whole_lines (map entry_text (reverse log)) ++ (whole_lines (sections_texts (tables_in log) s.left) ++ last_lines s.more)) t.is
     (c.0 ∙ ap count_text (sym l.count ∙ ap length (sym back)))
-    (l.is ∙ ap (λ (rest : List Line). whole_lines (map entry_text l.entries) ++ rest) s.is ∙ ap (λ (entries : List Entry). whole_lines (map entry_text entries) ++ (whole_lines (sections_texts (tables_in log) s.left) ++ last_lines s.more)) (sym back))) in
+    (l.is ∙ ap (λ (rest : List DumpLine). whole_lines (map entry_text l.entries) ++ rest) s.is ∙ ap (λ (entries : List Entry). whole_lines (map entry_text entries) ++ (whole_lines (sections_texts (tables_in log) s.left) ++ last_lines s.more)) (sym back))) in
     let rules : IsDump due = record { few_entries = few; log = is-log; commands = are-readable; few_spans = omega (arith, s.few, no-spans); spans = s.follow } in
     subst (λ (x : Dump). TookDump (first ∷ second ∷ lines) x) is-dump (record { second = h.second; more = s.more; is = due-lines ∙ sym (texts-lines h.second due s.more); format = said-format h.second log said; rules = rules })
 
@@ -553,16 +553,16 @@ line-again (byte ∷ text) bytes one = elim (cases_Bool (eqb byte 10)) [
 pub lines-again : (texts : List (List ℕ)) → AllByRecursion HasNoLineFeed texts → lines_of (flat_map with_newline texts) ≡ whole_lines texts ++ Missing ∷ []
 lines-again [] all = refl
 lines-again (text ∷ texts) all =
-    ap lines_of (append_assoc text (10 ∷ []) (flat_map with_newline texts)) ∙ line-again text (flat_map with_newline texts) all.0 ∙ ap (λ (lines : List Line). Whole text ∷ lines) (lines-again texts all.1)
+    ap lines_of (append_assoc text (10 ∷ []) (flat_map with_newline texts)) ∙ line-again text (flat_map with_newline texts) all.0 ∙ ap (λ (lines : List DumpLine). Whole text ∷ lines) (lines-again texts all.1)
 
 -- the bytes of lines
-abbrev pub bytes_of : List Line → List ℕ
+abbrev pub bytes_of : List DumpLine → List ℕ
 bytes_of [] = []
 bytes_of (Whole text ∷ lines) = text ++ 10 ∷ bytes_of lines
 bytes_of (Cut text ∷ lines) = text
 bytes_of (Missing ∷ lines) = []
 
-put-bytes : (byte : ℕ) (lines : List Line) → bytes_of (put byte lines) ≡ byte ∷ bytes_of lines
+put-bytes : (byte : ℕ) (lines : List DumpLine) → bytes_of (put byte lines) ≡ byte ∷ bytes_of lines
 put-bytes byte [] = refl
 put-bytes byte (Whole text ∷ lines) = refl
 put-bytes byte (Cut text ∷ lines) = refl
@@ -576,7 +576,7 @@ bytes-lines (byte ∷ bytes) = elim (cases_Bool (eqb byte 10)) [
   | inr other ↦ rw other (put-bytes byte (lines_of bytes) ∙ ap (λ (x : List ℕ). byte ∷ x) (bytes-lines bytes))
 ]
 
-bytes-whole : (texts : List (List ℕ)) (more : List Line) → bytes_of (whole_lines texts ++ Missing ∷ more) ≡ flat_map with_newline texts
+bytes-whole : (texts : List (List ℕ)) (more : List DumpLine) → bytes_of (whole_lines texts ++ Missing ∷ more) ≡ flat_map with_newline texts
 bytes-whole [] more = refl
 bytes-whole (text ∷ texts) more = ap (λ (bytes : List ℕ). text ++ 10 ∷ bytes) (bytes-whole texts more) ∙ sym (append_assoc text (10 ∷ []) (flat_map with_newline texts))
 
@@ -624,7 +624,7 @@ pub well-formed-read : (laws : LineLaws) (lawful : LogsAreLawful)
 well-formed-read laws lawful bytes dump is =
     let here : AreLawful (tables_in dump.entries) (versions_in dump.entries) = lawful dump.entries is.rules.commands is.rules.few_entries in
     let said : AreSaidIn is.second dump.entries = format-said is.second dump.entries is.format in
-    ap (λ (lines : List Line). verdict lines Header 1) (ap lines_of is.text ∙ lines-again (texts_of is.second dump) (texts-one-line laws is.second dump here is.rules said))
+    ap (λ (lines : List DumpLine). verdict lines Header 1) (ap lines_of is.text ∙ lines-again (texts_of is.second dump) (texts-one-line laws is.second dump here is.rules said))
     ∙ lines-read laws is.second dump [] here is.rules said
 
 pub read-well-formed : (laws : LineLaws) (lawful : LogsAreLawful)

@@ -1,14 +1,10 @@
 -- Row lines: which columns can hold them, which spans can be one after another, and why the spans of a table never overlap.
-use Rattle.std.proofs.Common.{◌≡◌, ℕ, true, false, ◌&&◌, eqb, List, [], ◌∷◌, ◌++◌, length, reverse, Some, Result, Ok, Err, MatchResult, is_ok, refl, sym, ap, subst, ◌∙◌, arith, inl, inr}
+use Rattle.std.proofs.Common.{◌≡◌, ℕ, true, false, ◌&&◌, List, [], ◌∷◌, ◌++◌, length, reverse, Some, refl, sym, ap, subst, ◌∙◌}
 use Rattle.std.specs.List.{AllByRecursion}
 use Rattle.std.specs.Ordering.{is_eq}
 use Rattle.std.specs.Prelude.{nat_lt, slice_get}
-use Rattle.std.specs.Str.{IsUtf8, IsValidUpTo, is_utf8}
-use Rattle.std.specs.Str.Lossy.{utf8_valid_len}
 use Rattle.std.specs.declared.cmp.Ordering.TheVariants.{Less, Equal, Greater}
-use Rattle.std.proofs.lemmas.Bool.{cases_Bool, eq-eqb, ne_eqb}
 use Rattle.std.proofs.lemmas.List.{reverse-append, reverse-reverse}
-use Rattle.std.proofs.lemmas.Str.{IsUtf8-from_is_utf8, is_utf8-from_IsUtf8, utf8_valid_len-IsUtf8, utf8_valid_len-IsValidUpTo}
 use Rattle.gp_base.specs.declared.table.Table.{Table}
 use Rattle.gp_base.specs.Identities.{identity_cmp, same_identity}
 use Rattle.gp_base.proofs.IdentityLaws.{same_identity-is}
@@ -20,16 +16,6 @@ use Rattle.gp_dump.specs.Dumps.{has_ended_by, is_after, is_in_place}
 use Rattle.gp_dump.specs.Reading.{AreDue}
 use Rattle.gp_dump.specs.Verdicts.{cols_of}
 use Rattle.gp_dump.proofs.PlaceLemmas.{Follows, follows-after, follows-apart, follows-trans, place-next, place-whole}
-
--- ---- UTF-8
-
--- the test of a line, and the test of a text in a cell
-pub utf8-test : {A E : Type 0} (P : A → Type 0) (Q : E → Type 0) (r : Result A E) (bytes : List ℕ) → MatchResult r (λ s. P s × IsUtf8 bytes) (λ e. ¬ (IsUtf8 bytes) × Q e) → is_ok r ≡ is_utf8 bytes
-utf8-test P Q (Ok s) bytes h = sym (is_utf8-from_IsUtf8 bytes h.1)
-utf8-test P Q (Err e) bytes h = elim (cases_Bool (is_utf8 bytes)) [
-  | inl e ↦ absurd (h.0 (IsUtf8-from_is_utf8 bytes e))
-  | inr e ↦ sym e
-]
 
 -- ---- the order of row lines
 
@@ -65,7 +51,7 @@ all-before versions (last ∷ before) span here placed =
     all-trans [] all first = tt
     all-trans (one ∷ earlier) all first = (follows-trans one last span all.0 first, all-trans earlier all.1 first)
 
--- the same, in the other order
+-- what holds of each span holds of each with one more behind
 all-push : (P : Span → Type 0) (spans : List Span) (span : Span) → AllByRecursion P spans → P span → AllByRecursion P (spans ++ span ∷ [])
 all-push P [] span all here = (here, tt)
 all-push P (first ∷ spans) span all here = (all.0, all-push P spans span all.1 here)

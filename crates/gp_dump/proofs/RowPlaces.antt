@@ -5,8 +5,7 @@ use Rattle.std.specs.List.{AllByRecursion, filter}
 use Rattle.std.specs.declared.cmp.Ordering.{Ordering}
 use Rattle.std.specs.declared.cmp.Ordering.TheVariants.{Less, Equal, Greater}
 use Rattle.std.specs.Ordering.{is_le, is_lt, is_eq, ordering_reverse, ordering_then, nat_cmp}
-use Rattle.std.specs.Cmp.{IsTotalOrder, tied_itself}
-use Rattle.std.proofs.lemmas.Cmp.{on_total, then_total, nat_cmp_total}
+use Rattle.std.specs.Cmp.{tied_itself}
 use Rattle.std.proofs.lemmas.Map.Lookups.{exact_unsigned}
 use Rattle.std.proofs.lemmas.Bool.Decides.{nat_tests}
 use Rattle.gp_base.proofs.IdentityLaws.{same_identity-is}
@@ -30,6 +29,7 @@ use Rattle.gp_dump.specs.WholeDumps.{AreInPlace}
 use Rattle.gp_dump.proofs.StepKinds.{Fits}
 use Rattle.std.proofs.lemmas.Bool.{le-leb, lt-ltb}
 use Rattle.gp_base.proofs.SmallLemmas.{each_append, each_map}
+use Rattle.gp_versions.proofs.OrderLemmas.{span_cmp_total}
 
 abbrev pub Pairwise : {X : Type 0} → (X → X → Type 0) → List X → Type 0
 Pairwise R [] = Unit {0}
@@ -115,9 +115,6 @@ not_less Less e = absurd (true≢false e)
 not_less Equal e = absurd (true≢false e)
 not_less Greater e = refl
 
-total : IsTotalOrder span_cmp
-total = then_total (on_total (λ (span : Span). span.id) identity_cmp_total) (on_total (λ (span : Span). span.from) nat_cmp_total)
-
 abbrev Below : Span → Span → Type 0
 Below a b = span_cmp a b ≡ Less
 
@@ -139,9 +136,9 @@ inserted_below x (y ∷ ys) clear all =
     elim (is_le (span_cmp x y)) as (λ b. is_le (span_cmp x y) ≡ b → Pairwise Below (if b then x ∷ y ∷ ys else y ∷ insert_sorted span_cmp x ys)) [
       | true ↦ λ e.
           let below : Below x y = not_equal (span_cmp x y) (differ x y clear.0) e in
-          ((below, each_weaker (Below x) (Below y) (λ z l. total.trans x y z below l) ys all.0), all)
+          ((below, each_weaker (Below x) (Below y) (λ z l. span_cmp_total.trans x y z below l) ys all.0), all)
       | false ↦ λ e.
-          let above : Below y x = total.antisymm y x ∙ not_less (span_cmp x y) e in
+          let above : Below y x = span_cmp_total.antisymm y x ∙ not_less (span_cmp x y) e in
           (inserted_each span_cmp (Below y) x ys above all.0, inserted_below x ys clear.1 all.1)
     ] refl
 

@@ -12,7 +12,7 @@ use Rattle.gp_base.specs.declared.table.Table.{Table}
 use Rattle.gp_base.specs.Catalogs.{place_of}
 use Rattle.gp_base.specs.UserCells.{is_user_cell}
 use Rattle.gp_grammar.specs.Syntax as y
-use Rattle.gp_grammar.specs.Syntax.{Bytes, Term, Item, Items, Block}
+use Rattle.gp_grammar.specs.Syntax.{Bytes, Term, Item, Items}
 use Rattle.gp_algebra.specs.Answers.{values}
 use Rattle.gp_check.specs.declared.types.TermType.{TermType}
 use Rattle.gp_check.specs.Scopes.{Scope, columns_of, scope_behind, scope_of}

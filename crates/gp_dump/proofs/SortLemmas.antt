@@ -4,48 +4,28 @@ use Rattle.std.proofs.Common.{◌≡◌, ◌⊎◌, inl, inr, ℕ, zero, suc, �
 use Rattle.std.specs.List.{All, AllByRecursion, range_with_len, slice_get, sum_by}
 use Rattle.std.specs.List.Sorted.{IsPermutation, IsSorted, IsSortedByKey}
 use Rattle.std.specs.Option.{option_cmp}
-use Rattle.std.specs.Ordering.{is_eq, is_gt, is_le, is_lt, nat_cmp, ordering_reverse, ordering_then}
+use Rattle.std.specs.Ordering.{is_eq, is_le, nat_cmp, ordering_reverse, ordering_then}
 use Rattle.std.specs.declared.cmp.Ordering.{Ordering}
 use Rattle.std.specs.declared.cmp.Ordering.TheVariants.{Less, Equal, Greater}
-use Rattle.std.specs.Cmp.{IsTotalOrder, on_total, then_total}
+use Rattle.std.specs.Cmp.{IsTotalOrder}
 use Rattle.std.proofs.lemmas.Bool.{cases_Bool, false≢true}
-use Rattle.std.proofs.lemmas.Cmp.{nat_cmp_total, tied_itself, upto}
+use Rattle.std.proofs.lemmas.Cmp.{tied_itself, upto}
 use Rattle.std.proofs.lemmas.List.{get_or-map, length-map}
 use Rattle.std.proofs.lemmas.List.Elements.{All-from_recursion, recursion_from_All}
 use Rattle.std.proofs.lemmas.List.Sorted.{All-permutation, IsPermutation-cons, IsPermutation-map, IsPermutation-middle, IsPermutation-refl, IsPermutation-sym, IsPermutation-trans, sum_by-IsPermutation}
 use Rattle.std.proofs.lemmas.List.Sums.{sum_by-cons}
 use Rattle.std.proofs.lemmas.Map.Lookups.{exact_unsigned}
 use Rattle.gp_base.specs.Identities.{identity_cmp, same_identity}
-use Rattle.gp_base.specs.IdentityOrder.{identity_cmp-exact, identity_cmp_total}
+use Rattle.gp_base.specs.IdentityOrder.{identity_cmp-exact}
 use Rattle.gp_base.specs.Order.{insert_sorted, sorted_by}
 use Rattle.gp_versions.specs.declared.span.Span.{Span}
 use Rattle.gp_versions.specs.Spans.{span_cmp}
 use Rattle.gp_versions.specs.TableSpans.{AreWhole, IsApart, IsEndAbove, NoOverlap}
-use Rattle.gp_versions.proofs.OrderLemmas.{places_total}
+use Rattle.gp_versions.proofs.OrderLemmas.{places_total, span_cmp_total}
 use Rattle.gp_versions.proofs.SameLemmas.{same-itself}
-use Rattle.gp_base.proofs.OrderLemmas.{equal_from_is_eq}
+use Rattle.gp_base.proofs.OrderLemmas.{equal_from_is_eq, gt_from_le, le_from_gt, le_from_lt_turned, le_turned}
 
 -- ---- results of a comparison
-
-gt-from-le : (o : Ordering) → is_le o ≡ true → is_gt o ≡ false
-gt-from-le Less e = refl
-gt-from-le Equal e = refl
-gt-from-le Greater e = sym e
-
-le-from-gt : (o : Ordering) → is_gt o ≡ false → is_le o ≡ true
-le-from-gt Less e = refl
-le-from-gt Equal e = refl
-le-from-gt Greater e = sym e
-
-le-turned : (o : Ordering) → is_le o ≡ false → is_le (ordering_reverse o) ≡ true
-le-turned Less e = sym e
-le-turned Equal e = refl
-le-turned Greater e = refl
-
-le-from-lt-turned : (o : Ordering) → is_lt o ≡ false → is_le (ordering_reverse o) ≡ true
-le-from-lt-turned Less e = sym e
-le-from-lt-turned Equal e = refl
-le-from-lt-turned Greater e = refl
 
 less-or-tied : (o : Ordering) → is_le o ≡ true → (o ≡ Less) ⊎ (is_eq o ≡ true)
 less-or-tied Less e = inl refl
@@ -98,7 +78,7 @@ module _ {T : Type 0} (cmp : T → T → Ordering) (total : IsTotalOrder cmp) wh
   tied item other = cond (is_eq (cmp item other)) 1 0
 
   le-through : (x y z : T) → is_le (cmp x y) ≡ true → is_le (cmp y z) ≡ true → is_le (cmp x z) ≡ true
-  le-through x y z first second = le-from-gt (cmp x z) (upto total x y z (gt-from-le (cmp x y) first) (gt-from-le (cmp y z) second))
+  le-through x y z first second = le_from_gt (cmp x z) (upto total x y z (gt_from_le (cmp x y) first) (gt_from_le (cmp y z) second))
 
   lower-through : (x y : T) (zs : List T) → is_le (cmp x y) ≡ true → IsLowerBound y zs → IsLowerBound x zs
   lower-through x y [] first all = tt
@@ -117,7 +97,7 @@ module _ {T : Type 0} (cmp : T → T → Ordering) (total : IsTotalOrder cmp) wh
   ascending-insert item (y ∷ ys) ascending =
       elim (is_le (cmp item y)) as (λ b. is_le (cmp item y) ≡ b → IsAscending (cond b (item ∷ y ∷ ys) (y ∷ insert_sorted cmp item ys))) [
         | true ↦ λ is. ((is, lower-through item y ys is ascending.0), ascending)
-        | false ↦ λ is. (lower-insert y item ys (subst (λ o. is_le o ≡ true) (sym (total.antisymm y item)) (le-turned (cmp item y) is)) ascending.0, ascending-insert item ys ascending.1)
+        | false ↦ λ is. (lower-insert y item ys (subst (λ o. is_le o ≡ true) (sym (total.antisymm y item)) (le_turned (cmp item y) is)) ascending.0, ascending-insert item ys ascending.1)
       ] refl
 
   ascending-sorted : (xs : List T) → IsAscending (sorted_by cmp xs)
@@ -143,7 +123,7 @@ module _ {T : Type 0} (cmp : T → T → Ordering) (total : IsTotalOrder cmp) wh
   ascending-from-sorted (x ∷ []) sorted = (tt, tt)
   ascending-from-sorted (x ∷ y ∷ ys) sorted =
       let first : is_le (cmp x y) ≡ true =
-      subst (λ o. is_le o ≡ true) (sym (total.antisymm x y)) (le-from-lt-turned (cmp y x) (sorted 0 x (omega arith) (omega arith))) in
+      subst (λ o. is_le o ≡ true) (sym (total.antisymm x y)) (le_from_lt_turned (cmp y x) (sorted 0 x (omega arith) (omega arith))) in
       let rest : IsAscending (y ∷ ys) = ascending-from-sorted (y ∷ ys) (λ k d low high. rw add-one (simp add-one at (sorted (suc k) d (omega arith) (omega arith)))) in
       ((first, lower-through x y ys first rest.0), rest)
 
@@ -267,9 +247,6 @@ few-by None spans apart are-whole = omega (arith, none-untied spans)
 few-by (Some s) spans apart are-whole = few-tied s spans apart are-whole
 
 -- ---- the spans at places
-
-pub span_cmp_total : IsTotalOrder span_cmp
-span_cmp_total = then_total (on_total (λ (span : Span). span.id) identity_cmp_total) (on_total (λ (span : Span). span.from) nat_cmp_total)
 
 range-within : (n first count : ℕ) → first + count ≤ n → AllByRecursion (λ place. place < n) (range_with_len first count)
 range-within n first zero within = tt

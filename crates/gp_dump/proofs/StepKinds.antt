@@ -18,9 +18,9 @@ use Rattle.gp_grammar.specs.declared.limits.TheConstants.{MAX_BRANCHES, MAX_COLU
 use Rattle.gp_grammar.specs.Limits as l
 use Rattle.gp_grammar.specs.Limits.{Limit, Shape, command_shape, passed_limit, query_shape, some_above}
 use Rattle.gp_grammar.specs.Syntax as y
-use Rattle.gp_grammar.specs.Syntax.{Bytes, Term, SetTerm, Item, Items, Block, Query, Command}
+use Rattle.gp_grammar.specs.Syntax.{Bytes, SetTerm, Item, Block, Query, Command}
 use Rattle.gp_expr.specs.Expressions as e
-use Rattle.gp_expr.specs.Expressions.{Expr, Cond}
+use Rattle.gp_expr.specs.Expressions.{Cond}
 use Rattle.gp_expr.specs.Values.{passes, value}
 use Rattle.gp_algebra.specs.Answers.{Element, answer, answer_from, choices, chosen, joined, values}
 use Rattle.gp_algebra.specs.Effects.{assigned, assigned_from, changed, given_from, is_over_nodes, made, set_for, set_or, step, with_rows}
@@ -56,9 +56,6 @@ FitsRow tables place row = Fits tables place row.identity row.cells
 
 abbrev pub AllFit : {M : Type 0} → List Table → Database M → Type 0
 AllFit tables db = (place : ℕ) → AllByRecursion (FitsRow tables place) (db place)
-
-some_table : (table other : Table) → Some table ≡ Some other → table ≡ other
-some_table table other e = cc
 
 -- a row that fits the columns of a table that is there
 target_row : (tables : List Table) (name : Bytes) (id : Identity) (cells : List Cell) → table_fault tables name ≡ None → fits_columns (columns_of tables name) cells ≡ true → IsReadable id
@@ -198,7 +195,7 @@ placed_kind before name (col ∷ cols) place e = go (bytes_eq name col.name) e (
     go true e rest = subst (λ (p : Place). HasKind before (col ∷ cols) p.number p.kind) (is (record { number = suc before; kind = col.kind }) place e) (inl (refl, refl))
     go false e rest = inr (kind_above (suc before) cols place.number place.kind (rest e), rest e)
 
--- the same, or the column is one of the others
+-- a column of the kind has the number, or the number is one of those before
 abbrev IsSeen : ℕ → List Column → ℕ → Kind → Type 0
 IsSeen before cols number k = (number ≤ before) ⊎ HasKind before cols number k
 

@@ -20,7 +20,8 @@ use Rattle.gp_dump.specs.Dumps.{dump_text, with_newline, sections_texts}
 use Rattle.gp_dump.specs.WholeDumps.{dump_with}
 use Rattle.gp_dump.specs.Views.{tables_view}
 use Rattle.gp_dump.specs.Writing.{found_text, log_line_text, ordered, place_text, row_line_text, section_texts}
-use Rattle.gp_dump.proofs.SortLemmas.{somes, spans-in-order, permutation-sorted, span_cmp_total}
+use Rattle.gp_dump.proofs.SortLemmas.{somes, spans-in-order, permutation-sorted}
+use Rattle.gp_versions.proofs.OrderLemmas.{span_cmp_total}
 
 -- ---- row lines
 

@@ -2,21 +2,21 @@
 -- feed, or a missing line, so that a line that is due and missing is a line too.
 use Rattle.std.specs.Prelude.{ℕ, List, [], ◌∷◌, if◌then◌else◌, ◌==◌}
 
-pub data Line : Type 0 where
+pub data DumpLine : Type 0 where
   -- ended by a line feed
-  Whole : List ℕ → Line
+  Whole : List ℕ → DumpLine
   -- behind the last line feed
-  Cut : List ℕ → Line
+  Cut : List ℕ → DumpLine
   -- nothing is behind the last line feed
-  Missing : Line
+  Missing : DumpLine
 
 -- the byte in front of the first line
-abbrev pub onto : ℕ → List Line → List Line
+abbrev pub onto : ℕ → List DumpLine → List DumpLine
 onto byte [] = Cut (byte ∷ []) ∷ []
 onto byte (Whole text ∷ lines) = Whole (byte ∷ text) ∷ lines
 onto byte (Cut text ∷ lines) = Cut (byte ∷ text) ∷ lines
 onto byte (Missing ∷ lines) = Cut (byte ∷ []) ∷ lines
 
-abbrev pub lines_of : List ℕ → List Line
+abbrev pub lines_of : List ℕ → List DumpLine
 lines_of [] = Missing ∷ []
 lines_of (byte ∷ bytes) = if byte == 10 then Whole [] ∷ lines_of bytes else onto byte (lines_of bytes)

@@ -17,28 +17,28 @@ use Rattle.gp_dump.specs.declared.error.EntryStop.{EntryStop}
 use Rattle.gp_dump.specs.declared.error.EntryStop.TheVariants as entry
 use Rattle.gp_dump.specs.declared.error.LineStop.{LineStop}
 use Rattle.gp_dump.specs.declared.error.LineStop.TheVariants as line
-use Rattle.gp_dump.specs.declared.lines.Line as code
-use Rattle.gp_dump.specs.declared.lines.Line.TheVariants as l
-use Rattle.gp_dump.specs.Lines.{Line, Whole, Cut, Missing, lines_of}
+use Rattle.gp_dump.specs.declared.lines.DumpLine as code
+use Rattle.gp_dump.specs.declared.lines.DumpLine.TheVariants as l
+use Rattle.gp_dump.specs.Lines.{DumpLine, Whole, Cut, Missing, lines_of}
 use Rattle.gp_dump.specs.Rules.{Due, Header, Count, Logs, Sections, Rows, Nothing}
 use Rattle.gp_dump.specs.Verdicts.{Verdict, Fails, cols_of, verdict}
 use Rattle.gp_dump.specs.Views.{tables_view}
 
 -- ---- lines
 
-abbrev pub line_view : code.Line → Line
+abbrev pub line_view : code.DumpLine → DumpLine
 line_view (l.Whole text) = Whole text.now
 line_view (l.Cut text) = Cut text.now
 line_view l.Missing = Missing
 
 -- the lines behind a line
-abbrev pub behind : Line → List ℕ → List Line
+abbrev pub behind : DumpLine → List ℕ → List DumpLine
 behind (Whole text) bytes = lines_of bytes
 behind (Cut text) bytes = []
 behind Missing bytes = []
 
 -- the bytes of a line, and of its end
-abbrev pub taken : Line → ℕ
+abbrev pub taken : DumpLine → ℕ
 taken (Whole text) = length text + 1
 taken (Cut text) = length text
 taken Missing = 0

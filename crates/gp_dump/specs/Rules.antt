@@ -16,7 +16,7 @@ use Rattle.gp_dumpline.specs.Rows.{IsRowLine}
 use Rattle.gp_dumpline.specs.Said.{IsSaid, is_said_in}
 use Rattle.gp_dumpline.specs.Texts.{count_text, end_text, entry_text, header, log_line_text, said_text, section_text, span_text}
 use Rattle.gp_dump.specs.Dumps.{Dump, IsRow, fits_columns, spans_in}
-use Rattle.gp_dump.specs.Lines.{Line, Whole, Cut, Missing, lines_of}
+use Rattle.gp_dump.specs.Lines.{DumpLine, Whole, Cut, Missing, lines_of}
 
 -- ---- what is due next, given the lines before
 
@@ -59,9 +59,9 @@ pub data Leads : Due → List ℕ → Due → Type 0 where
       → Leads due text (Nothing (record { entries = log; tables = reverse tables }))
 
 -- lines that all keep the rules, where this is due: they end with this dump
-pub data KeepRules : List Line → Due → Dump → Type 0 where
+pub data KeepRules : List DumpLine → Due → Dump → Type 0 where
   ended : (dump : Dump) → KeepRules (Missing ∷ []) (Nothing dump) dump
-  followed : (text : List ℕ) (lines : List Line) (due next : Due) (dump : Dump) → Leads due text next → KeepRules lines next dump → KeepRules (Whole text ∷ lines) due dump
+  followed : (text : List ℕ) (lines : List DumpLine) (due next : Due) (dump : Dump) → Leads due text next → KeepRules lines next dump → KeepRules (Whole text ∷ lines) due dump
 
 -- the bytes of a file are a dump that keeps the rules
 abbrev pub WellFormed : List ℕ → Dump → Type 0
@@ -106,7 +106,7 @@ pub data Breaks : Due → List ℕ → ℕ → Type 0 where
   goes_on : (dump : Dump) (text : List ℕ) → Breaks (Nothing dump) text 14
 
 -- A line that breaks a rule, with the number of the rule. Rule 1 is that it is UTF-8. Rule 3 is that a line feed ends it; it comes before all but rules 1 and 2.
-pub data LineBreaks : Due → Line → ℕ → Type 0 where
+pub data LineBreaks : Due → DumpLine → ℕ → Type 0 where
   no_text : (due : Due) (text : List ℕ) → is_utf8 text ≡ false → LineBreaks due (Whole text) 1
   no_cut_text : (due : Due) (text : List ℕ) → is_utf8 text ≡ false → LineBreaks due (Cut text) 1
   breaks : (due : Due) (text : List ℕ) (f : ℕ) → is_utf8 text ≡ true → Breaks due text f → LineBreaks due (Whole text) f
@@ -117,9 +117,9 @@ pub data LineBreaks : Due → Line → ℕ → Type 0 where
 -- ---- the first fault
 
 -- the first fault in lines, of which the first has this number, where this is due: the number of the rule, and the number of the line
-pub data FaultIn : List Line → Due → ℕ → ℕ → ℕ → Type 0 where
-  here : (line : Line) (lines : List Line) (due : Due) (number f : ℕ) → LineBreaks due line f → FaultIn (line ∷ lines) due number f number
-  later : (text : List ℕ) (lines : List Line) (due next : Due) (number f at : ℕ) → Leads due text next → FaultIn lines next (number + 1) f at → FaultIn (Whole text ∷ lines) due number f at
+pub data FaultIn : List DumpLine → Due → ℕ → ℕ → ℕ → Type 0 where
+  here : (line : DumpLine) (lines : List DumpLine) (due : Due) (number f : ℕ) → LineBreaks due line f → FaultIn (line ∷ lines) due number f number
+  later : (text : List ℕ) (lines : List DumpLine) (due next : Due) (number f at : ℕ) → Leads due text next → FaultIn lines next (number + 1) f at → FaultIn (Whole text ∷ lines) due number f at
 
 -- the first fault of a file
 abbrev pub FirstFault : List ℕ → ℕ → ℕ → Type 0

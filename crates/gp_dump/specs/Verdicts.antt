@@ -14,7 +14,7 @@ use Rattle.gp_dumpline.specs.Forms.{count_of, header_of, log_line_of, said_of, s
 use Rattle.gp_dumpline.specs.Said.{is_said_in}
 use Rattle.gp_dumpline.specs.Texts.{end_text}
 use Rattle.gp_dump.specs.Dumps.{Dump, fits_columns, is_in_place, spans_in}
-use Rattle.gp_dump.specs.Lines.{Line, Whole, Cut, Missing, lines_of}
+use Rattle.gp_dump.specs.Lines.{DumpLine, Whole, Cut, Missing, lines_of}
 use Rattle.gp_dump.specs.Rules.{Due, Header, Count, Logs, Sections, Rows, Nothing, flaw_rule}
 
 infixl 10 ◌>>=◌
@@ -34,13 +34,13 @@ rule_holds number false = Err number
 -- ---- the rules of a line
 
 -- rules 1 and 3: a line is UTF-8, and is ended by a line feed
-abbrev pub text_of : Line → Result (List ℕ) ℕ
+abbrev pub text_of : DumpLine → Result (List ℕ) ℕ
 text_of (Whole text) = if is_utf8 text then Ok text else Err 1
 text_of (Cut text) = if is_utf8 text then Err 3 else Err 1
 text_of Missing = Err 3
 
 -- rule 2: the first line names a format; it comes before rule 3
-abbrev pub header_line : Line → Result Due ℕ
+abbrev pub header_line : DumpLine → Result Due ℕ
 header_line (Whole text) = if is_utf8 text then (rule 2 (header_of text) >>= (λ second. Ok (Count second))) else Err 1
 header_line (Cut text) = if is_utf8 text then (rule 2 (header_of text) >>= (λ second. Err 3)) else Err 1
 header_line Missing = Err 3
@@ -108,7 +108,7 @@ after_text (Rows (suc left) log tables rows) text = row_line left log tables row
 after_text (Nothing dump) text = Err 14
 
 -- after the end there is no line
-abbrev pub nothing_line : Line → Result (Unit {0}) ℕ
+abbrev pub nothing_line : DumpLine → Result (Unit {0}) ℕ
 nothing_line (Whole text) = if is_utf8 text then Err 14 else Err 1
 nothing_line (Cut text) = if is_utf8 text then Err 3 else Err 1
 nothing_line Missing = Ok tt
@@ -129,7 +129,7 @@ end_verdict (Ok x) number dump = Holds dump
 end_verdict (Err f) number dump = Fails f number
 
 -- the verdict on lines, of which the first has this number, given what is due
-unfoldable pub verdict : List Line → Due → ℕ → Verdict
+unfoldable pub verdict : List DumpLine → Due → ℕ → Verdict
 verdict [] due number = Fails 3 number
 verdict (line ∷ lines) Header number = then_verdict (header_line line) number (λ next. verdict lines next (number + 1))
 verdict (line ∷ lines) (Count second) number = then_verdict (text_of line >>= after_text (Count second)) number (λ next. verdict lines next (number + 1))

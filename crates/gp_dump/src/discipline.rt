@@ -21,12 +21,13 @@ ghost use Rattle.gp_dumpline.specs.Views.{IsValid, said_view};
 
 use crate::error::EntryStop;
 use gp_algebra::Stmt;
-use gp_base::{MAX_TABLES, Table};
-use gp_check::{CheckStop, check, check_table};
+use gp_base::{MAX_TABLES, NoMemory, Stop, Table};
+use gp_check::{check, check_table};
 use gp_dumpline::Said;
 use gp_log::{Entry, Log, MAX_STATEMENTS, MAX_STEPS, MAX_TRANSACTIONS, What};
 use gp_syntax::Command;
 use std::alloc::Global;
+use std::rc::Rc;
 
 /// The transaction of the session that has not ended, if it has one.
 #[tactic(auto, using(crate::proofs::DisciplineLemmas::session_steps))]
@@ -62,8 +63,8 @@ fn check_create(log: &Log, active: Option<u32>, table: &Table) -> Result<(), Ent
     }
     match check_table(catalog, table) {
         Ok(_) => Ok(()),
-        Err(CheckStop::Refused(_)) => Err(EntryStop::Unchecked),
-        Err(CheckStop::NoMemory) => Err(EntryStop::NoMemory),
+        Err(Stop::Refused(_)) => Err(EntryStop::Unchecked),
+        Err(Stop::NoMemory) => Err(EntryStop::NoMemory),
     }
 }
 
@@ -152,9 +153,19 @@ fn check_run(
             k: ran + 1,
             stmt,
         }),
-        Err(CheckStop::Refused(_)) => Err(EntryStop::Unchecked),
-        Err(CheckStop::NoMemory) => Err(EntryStop::NoMemory),
+        Err(Stop::Refused(_)) => Err(EntryStop::Unchecked),
+        Err(Stop::NoMemory) => Err(EntryStop::NoMemory),
     }
+}
+
+/// A command and its statement, each behind a count of its owners.
+fn counted(alloc: Global, command: Command, stmt: Stmt) -> Result<(Rc<Command>, Rc<Stmt>), NoMemory>
+    ensures command { IfOk result (λ r. r.0.value ≡ command) }
+    ensures stmt { IfOk result (λ r. r.1.value ≡ stmt) }
+{
+    let command = Rc::new(alloc, command)?;
+    let stmt = Rc::new(alloc, stmt)?;
+    Ok((command, stmt))
 }
 
 /// The entry of a statement.
@@ -173,12 +184,15 @@ fn statement(
     ensures valid { IfOk result (λ entry. CreatesValid entry.what) }
 {
     match check_run(alloc, log, active, &command) {
-        Ok(Run { t, k, stmt }) => Ok(Entry {
-            line,
-            session,
-            t,
-            what: What::Statement { k, command, stmt },
-        }),
+        Ok(Run { t, k, stmt }) => match counted(alloc, command, stmt) {
+            Ok((command, stmt)) => Ok(Entry {
+                line,
+                session,
+                t,
+                what: What::Statement { k, command, stmt },
+            }),
+            Err(NoMemory) => Err(EntryStop::NoMemory),
+        },
         Err(stop) => Err(stop),
     }
 }

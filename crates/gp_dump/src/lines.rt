@@ -1,7 +1,7 @@
 //! The lines of a dump.
 
 ghost use Rattle.std.specs.Prelude.{◌≡◌, ◌∷◌, ◌≤◌, ◌+◌, length};
-ghost use Rattle.std.specs.Str.{bytes_eq, is_utf8};
+ghost use Rattle.std.specs.Str.{bytes_eq};
 ghost use Rattle.gp_dumpline.specs.Texts.{end_text};
 ghost use Rattle.gp_dump.specs.Lines.{lines_of};
 ghost use Rattle.gp_dump.specs.Reading.{behind, line_view, taken};
@@ -10,7 +10,7 @@ use gp_dumpline::END;
 
 /// A line, and how it ends.
 #[derive(Clone, Copy)]
-pub enum Line<'a> {
+pub enum DumpLine<'a> {
     /// The text in front of a line feed.
     Whole(&'a [u8]),
     /// The bytes behind the last line feed.
@@ -21,7 +21,7 @@ pub enum Line<'a> {
 
 /// The first line, and the bytes behind it.
 #[tactic(auto, using(crate::proofs::LinesLemmas::first_lines))]
-pub fn first_line(bytes: &[u8]) -> (Line<'_>, &[u8])
+pub fn first_line(bytes: &[u8]) -> (DumpLine<'_>, &[u8])
     ensures lines { lines_of bytes.now
         ≡ line_view result.0 ∷ behind (line_view result.0) result.1.now }
     ensures shorter { length result.1.now + taken (line_view result.0) ≤ length bytes.now }
@@ -29,22 +29,15 @@ pub fn first_line(bytes: &[u8]) -> (Line<'_>, &[u8])
     let mut at = 0;
     while at < bytes.len() {
         if bytes[at] == b'\n' {
-            return (Line::Whole(&bytes[..at]), &bytes[at + 1..]);
+            return (DumpLine::Whole(&bytes[..at]), &bytes[at + 1..]);
         }
         at += 1;
     }
     if bytes.is_empty() {
-        (Line::Missing, bytes)
+        (DumpLine::Missing, bytes)
     } else {
-        (Line::Cut(bytes), &[])
+        (DumpLine::Cut(bytes), &[])
     }
-}
-
-/// Whether the bytes are UTF-8.
-pub fn is_text(bytes: &[u8]) -> bool
-    ensures { result ≡ is_utf8 bytes.now }
-{
-    str::from_utf8(bytes).is_ok()
 }
 
 /// Whether the text is that of the last line.

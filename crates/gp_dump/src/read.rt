@@ -22,9 +22,9 @@ ghost use Rattle.gp_dump.specs.Views.{dump_view};
 
 use crate::dump::{Dump, MAX_DUMP_LENGTH};
 use crate::error::DumpStop;
-use crate::lines::{Line, first_line, is_end, is_text};
+use crate::lines::{DumpLine, first_line, is_end};
 use crate::rules::{format, log_line, nothing_fault, row_line, section_line};
-use gp_base::{Column, Sequence};
+use gp_base::{Column, Sequence, is_utf8};
 use gp_dumpline::parse_count;
 use gp_log::{Entry, Log};
 use gp_versions::{Span, VersionTable};
@@ -51,8 +51,8 @@ fn next_text(rest: Rest<'_>) -> Result<(&[u8], Rest<'_>), DumpStop>
 {
     let (line, bytes) = first_line(rest.bytes);
     match line {
-        Line::Whole(text) => {
-            if is_text(text) {
+        DumpLine::Whole(text) => {
+            if is_utf8(text) {
                 Ok((
                     text,
                     Rest {
@@ -67,11 +67,11 @@ fn next_text(rest: Rest<'_>) -> Result<(&[u8], Rest<'_>), DumpStop>
                 })
             }
         }
-        Line::Cut(text) => Err(DumpStop::Fault {
-            f: if is_text(text) { 3 } else { 1 },
+        DumpLine::Cut(text) => Err(DumpStop::Fault {
+            f: if is_utf8(text) { 3 } else { 1 },
             line: rest.number,
         }),
-        Line::Missing => Err(DumpStop::Fault {
+        DumpLine::Missing => Err(DumpStop::Fault {
             f: 3,
             line: rest.number,
         }),

@@ -15,8 +15,8 @@ ghost use Rattle.gp_dump.specs.Verdicts.{header_line, log_rule, nothing_line, ro
 
 use crate::discipline::next_entry;
 use crate::error::LineStop;
-use crate::lines::{Line, is_text};
-use gp_base::{Cell, Column, Kind, MAX_SPANS, Table, is_user_text};
+use crate::lines::DumpLine;
+use gp_base::{Cell, Column, Kind, MAX_SPANS, Table, is_user_text, is_utf8};
 use gp_dumpline::{parse_header, parse_log_line, parse_said, parse_section, parse_span};
 use gp_log::{Entry, Log};
 use gp_versions::Span;
@@ -24,14 +24,14 @@ use std::alloc::Global;
 use std::cmp::Ordering;
 
 /// Whether the format that the first line names is the second one, or the rule that fails.
-pub fn format(line: Line<'_>) -> Result<bool, u8>
+pub fn format(line: DumpLine<'_>) -> Result<bool, u8>
     ensures { MatchResult result (λ second. header_line (line_view line.entry) ≡ Ok (Count second))
         (λ f. header_line (line_view line.entry) ≡ Err f) }
 {
     match line {
-        Line::Missing => Err(3),
-        Line::Whole(text) => {
-            if !is_text(text) {
+        DumpLine::Missing => Err(3),
+        DumpLine::Whole(text) => {
+            if !is_utf8(text) {
                 Err(1)
             } else {
                 match parse_header(text) {
@@ -40,8 +40,8 @@ pub fn format(line: Line<'_>) -> Result<bool, u8>
                 }
             }
         }
-        Line::Cut(text) => {
-            if !is_text(text) {
+        DumpLine::Cut(text) => {
+            if !is_utf8(text) {
                 Err(1)
             } else {
                 match parse_header(text) {
@@ -54,14 +54,14 @@ pub fn format(line: Line<'_>) -> Result<bool, u8>
 }
 
 /// The rule that fails behind the last line, if one does.
-pub fn nothing_fault(line: Line<'_>) -> Option<u8>
+pub fn nothing_fault(line: DumpLine<'_>) -> Option<u8>
     ensures { MatchOption result (nothing_line (line_view line.entry) ≡ Ok tt)
         (λ f. nothing_line (line_view line.entry) ≡ Err f) }
 {
     match line {
-        Line::Missing => None,
-        Line::Whole(text) => Some(if is_text(text) { 14 } else { 1 }),
-        Line::Cut(text) => Some(if is_text(text) { 3 } else { 1 }),
+        DumpLine::Missing => None,
+        DumpLine::Whole(text) => Some(if is_utf8(text) { 14 } else { 1 }),
+        DumpLine::Cut(text) => Some(if is_utf8(text) { 3 } else { 1 }),
     }
 }
 

@@ -1,13 +1,14 @@
 -- Lemmas of the cells of a row line as loops read them.
-use Rattle.std.proofs.Common.{◌≡◌, ◌≢◌, eq-eqb, ℕ, zero, suc, ◌+◌, ◌^◌, ◌<◌, ◌≤◌, min, Bool, true, false, not, ◌&&◌, eqb, ltb, cond, List, [], ◌∷◌, ◌++◌, length, take, drop, get_or, Option, Some, None, option_and_then, ℤ, pos, negsuc, refl, sym, ap, ◌∙◌, append_assoc, arith, inl, inr}
+use Rattle.std.proofs.Common.{◌≡◌, ◌≢◌, eq-eqb, ℕ, zero, suc, ◌+◌, ◌^◌, ◌<◌, ◌≤◌, Bool, true, false, not, ◌&&◌, eqb, ltb, cond, List, [], ◌∷◌, ◌++◌, length, take, drop, get_or, Option, Some, None, option_and_then, ℤ, pos, negsuc, refl, sym, ap, ◌∙◌, append_assoc, arith}
 use Rattle.std.specs.Option.{option_map}
-use Rattle.std.proofs.lemmas.Bool.{cases_Bool, ne_eqb, cond-false, eqb-true, ltb-true, ltb-false, le-ltb}
+use Rattle.std.proofs.lemmas.Bool.{ne_eqb, cond-false, eqb-true, le-ltb}
 use Rattle.std.proofs.lemmas.List.{drop_more, take_more, drop_all, take_all, append-nil}
 use Rattle.gp_base.specs.declared.cell.Cell.{Cell}
 use Rattle.gp_dumpline.specs.Numbers.{number_of, after_byte}
-use Rattle.gp_dumpline.specs.Digits.{greatest, saturating_number}
 use Rattle.gp_dumpline.specs.RowForms.{put, parts_of, unquoted, negative_of, integer_of, cell_of, further_cells, cells_in, cells_of}
 use Rattle.gp_dumpline.specs.CellParts.{puts, parts_behind, with_further}
+use Rattle.gp_base.specs.Saturating.{saturated}
+use Rattle.gp_base.proofs.SaturatingLemmas.{capped}
 use Rattle.gp_base.proofs.SmallLemmas.{and_none}
 
 -- ---- parts
@@ -112,39 +113,14 @@ negative-none (suc n) large = cond-false (ltb n (2 ^ 63)) (Some (negsuc n)) None
 abbrev positive_of : ℕ → Option ℤ
 positive_of n = cond (ltb n (2 ^ 63)) (Some (pos n)) None
 
-positive-none : (n : ℕ) → 2 ^ 63 ≤ n → positive_of n ≡ None
-positive-none n large = cond-false (ltb n (2 ^ 63)) (Some (pos n)) None (le-ltb n (2 ^ 63) large)
+positive-none : (n : ℕ) → 2 ^ 63 < n → positive_of n ≡ None
+positive-none n large = cond-false (ltb n (2 ^ 63)) (Some (pos n)) None (le-ltb n (2 ^ 63) (omega (arith, large)))
 
--- a number of 64 bits or more is none of 63 bits with a sign, and so is the greatest of 64 bits
-pub negative-capped : (number : Option ℕ) → option_and_then negative_of (option_map (λ (n : ℕ). min n greatest) number) ≡ option_and_then negative_of number
-negative-capped None = refl
-negative-capped (Some n) = elim (cases_Bool (ltb n greatest)) [
-  | inl few ↦
-      let small : n < greatest = ltb-true n greatest few in
-      let same : min n greatest ≡ n = omega (arith, small) in
-      ap negative_of same
-  | inr many ↦
-      let large : greatest ≤ n = ltb-false n greatest many in
-      negative-none (min n greatest) (omega (arith, large)) ∙ sym (negative-none n (omega (arith, large)))
-]
+pub integer-negative : (b : ℕ) (bytes : List ℕ) → eqb b 45 ≡ true → integer_of (b ∷ bytes) ≡ option_and_then negative_of (saturated (number_of bytes))
+integer-negative b bytes minus = rw minus (sym (capped negative_of negative-none (number_of bytes)))
 
-pub positive-capped : (number : Option ℕ) → option_and_then positive_of (option_map (λ (n : ℕ). min n greatest) number) ≡ option_and_then positive_of number
-positive-capped None = refl
-positive-capped (Some n) = elim (cases_Bool (ltb n greatest)) [
-  | inl few ↦
-      let small : n < greatest = ltb-true n greatest few in
-      let same : min n greatest ≡ n = omega (arith, small) in
-      ap positive_of same
-  | inr many ↦
-      let large : greatest ≤ n = ltb-false n greatest many in
-      positive-none (min n greatest) (omega (arith, large)) ∙ sym (positive-none n (omega (arith, large)))
-]
-
-pub integer-negative : (b : ℕ) (bytes : List ℕ) → eqb b 45 ≡ true → integer_of (b ∷ bytes) ≡ option_and_then negative_of (saturating_number bytes)
-integer-negative b bytes minus = rw minus (sym (negative-capped (number_of bytes)))
-
-pub integer-positive : (b : ℕ) (bytes : List ℕ) → eqb b 45 ≡ false → integer_of (b ∷ bytes) ≡ option_and_then positive_of (saturating_number (b ∷ bytes))
-integer-positive b bytes other = rw other (sym (positive-capped (number_of (b ∷ bytes))))
+pub integer-positive : (b : ℕ) (bytes : List ℕ) → eqb b 45 ≡ false → integer_of (b ∷ bytes) ≡ option_and_then positive_of (saturated (number_of (b ∷ bytes)))
+integer-positive b bytes other = rw other (sym (capped positive_of positive-none (number_of (b ∷ bytes))))
 
 pub ruleset integers = (integer-negative, integer-positive)
 

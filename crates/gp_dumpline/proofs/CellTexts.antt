@@ -11,11 +11,11 @@ use Rattle.gp_base.specs.declared.cell.Cell.TheVariants.{Null, Int, Text, Id, Ma
 use Rattle.gp_base.specs.Cells.{fits_number}
 use Rattle.gp_base.specs.Texts.{quoted_byte, cell_text, row_text}
 use Rattle.gp_dumpline.specs.Numbers.{number_of, after_byte}
-use Rattle.gp_base.specs.Digits.{is_digit}
+use Rattle.gp_base.specs.Digits.{are_digits, is_digit}
 use Rattle.gp_dumpline.specs.RowForms.{put, parts_of, unquoted, negative_of, integer_of, cell_of, further_cells, cells_in, cells_of}
 use Rattle.gp_dumpline.specs.CellParts.{puts}
 use Rattle.gp_dumpline.specs.Rows.{is_readable_cell}
-use Rattle.gp_dumpline.proofs.NumberLaws.{all_digits, digits_own, number-again, number-takes}
+use Rattle.gp_dumpline.proofs.NumberLaws.{digits_own, number-again, number-takes}
 use Rattle.gp_dumpline.proofs.PartLaws.{bind, byte-takes}
 use Rattle.gp_dumpline.proofs.CellLemmas.{puts-part, plain-unquoted}
 use Rattle.std.proofs.lemmas.Option.{none-some, same_Some}
@@ -59,10 +59,10 @@ quoted (b ∷ text) rest = elim (cases_Bool (eqb b 39)) [
 
 -- ---- numbers
 
-digits-high : (ds : List ℕ) → all_digits ds ≡ true → AreHigh ds
+digits-high : (ds : List ℕ) → are_digits ds ≡ true → AreHigh ds
 digits-high [] all = tt
 digits-high (d ∷ ds) all =
-    let p = and_parts (is_digit d) (all_digits ds) all in
+    let p = and_parts (is_digit d) (are_digits ds) all in
     let q = and_parts (leb 48 d) (leb d 57) p.0 in
     (omega (arith, leb-true 48 d q.0), digits-high ds p.1)
 
@@ -106,11 +106,11 @@ row-parts cell (next ∷ cells) fits all =
 
 -- ---- a cell is read again
 
-number-some : (n : ℕ) (ds : List ℕ) → number_of ds ≡ Some n → all_digits ds ≡ true → n < 2 ^ 63 → cell_of ds ≡ Some (Int (pos n))
+number-some : (n : ℕ) (ds : List ℕ) → number_of ds ≡ Some n → are_digits ds ≡ true → n < 2 ^ 63 → cell_of ds ≡ Some (Int (pos n))
 unfolding cell_of
 number-some n [] is all small = absurd cc
 number-some n (d ∷ ds) is all small =
-    let p = and_parts (is_digit d) (all_digits ds) all in
+    let p = and_parts (is_digit d) (are_digits ds) all in
     let q = and_parts (leb 48 d) (leb d 57) p.0 in
     let up : 48 ≤ d = leb-true 48 d q.0 in
     let down : d ≤ 57 = leb-true d 57 q.1 in

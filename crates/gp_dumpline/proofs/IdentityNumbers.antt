@@ -5,12 +5,12 @@ use Rattle.std.proofs.lemmas.Bool.{cases_Bool, and_parts, and_from, leb-true, le
 use Rattle.std.proofs.lemmas.Fmt.{digits_decimal, digits_value-decimal, decimal-digits_value, decimal_nonempty, first_decimal}
 use Rattle.gp_dumpline.specs.declared.identity.TheConstants.{MAX_PART}
 use Rattle.gp_dumpline.specs.Numbers.{after_byte}
-use Rattle.gp_base.specs.Digits.{is_digit}
+use Rattle.gp_base.specs.Digits.{are_digits, is_digit}
 use Rattle.gp_dumpline.specs.RowForms.{if_part, part_at, numbers_at, Numbers}
 use Rattle.gp_base.specs.Leaves.{digits_at}
 use Rattle.gp_dumpline.specs.Rows.{IsPart}
 use Rattle.gp_dumpline.proofs.PartLaws.{bind, byte-takes}
-use Rattle.gp_base.proofs.DigitLemmas.{all_digits, fold_on, in_range, own_on, range_in}
+use Rattle.gp_base.proofs.DigitLemmas.{fold_on, in_range, own_on, range_in}
 
 -- the text does not begin with a digit
 abbrev pub IsAfterDigits : List ℕ → Type 0
@@ -21,17 +21,17 @@ digits_at-stop : (n : ℕ) (rest : List ℕ) → IsAfterDigits rest → digits_a
 digits_at-stop n [] after = refl
 digits_at-stop n (b ∷ rest) after = rw after refl
 
-digits_at-all : (n : ℕ) (ds rest : List ℕ) → all_digits ds ≡ true → IsAfterDigits rest → digits_at n (ds ++ rest) ≡ (fold_on n ds, rest)
+digits_at-all : (n : ℕ) (ds rest : List ℕ) → are_digits ds ≡ true → IsAfterDigits rest → digits_at n (ds ++ rest) ≡ (fold_on n ds, rest)
 digits_at-all n [] rest all after = digits_at-stop n rest after
 digits_at-all n (d ∷ ds) rest all after =
-    let p = and_parts (is_digit d) (all_digits ds) all in
+    let p = and_parts (is_digit d) (are_digits ds) all in
     rw p.0 (digits_at-all (n * 10 + (d - 48)) ds rest p.1 after)
 
-part-text : (n : ℕ) (ds rest : List ℕ) → ds ≡ decimal n → IsPart n → all_digits ds ≡ true → fold_on 0 ds ≡ n → 0 < length ds → 48 < get_or ds 0 0 → IsAfterDigits rest → part_at (ds ++ rest) ≡ Some (n, rest)
+part-text : (n : ℕ) (ds rest : List ℕ) → ds ≡ decimal n → IsPart n → are_digits ds ≡ true → fold_on 0 ds ≡ n → 0 < length ds → 48 < get_or ds 0 0 → IsAfterDigits rest → part_at (ds ++ rest) ≡ Some (n, rest)
 unfolding part_at
 part-text n [] rest is range all value some high after = absurd (omega (arith, some))
 part-text n (d ∷ ds) rest is range all value some high after =
-    let p = and_parts (is_digit d) (all_digits ds) all in
+    let p = and_parts (is_digit d) (are_digits ds) all in
     let first : (leb 49 d && leb d 57) ≡ true = and_from (leb 49 d) (leb d 57) (le-leb 49 d (omega (arith, high))) (le-leb d 57 (in_range d p.0).1) in
     let read : digits_at 0 ((d ∷ ds) ++ rest) ≡ (n, rest) = digits_at-all 0 (d ∷ ds) rest all after ∙ ap (λ (x : ℕ). (x, rest)) value in
     let fits : leb n MAX_PART ≡ true = le-leb n MAX_PART range.1 in
@@ -46,7 +46,7 @@ part-again n rest range after =
 
 pub record TookDigits (n : ℕ) (bytes : List ℕ) (value : ℕ) (rest : List ℕ) : Type 0 where
   pub ds : List ℕ
-  pub all : all_digits ds ≡ true
+  pub all : are_digits ds ≡ true
   pub is : bytes ≡ ds ++ rest
   pub valued : fold_on n ds ≡ value
   pub after : IsAfterDigits rest
@@ -56,7 +56,7 @@ took n [] = record { ds = []; all = refl; is = refl; valued = refl; after = tt }
 took n (b ∷ bytes) = elim (cases_Bool (is_digit b)) [
   | inl d ↦
       let t = took (n * 10 + (b - 48)) bytes in
-      let more : TookDigits n (b ∷ bytes) (digits_at (n * 10 + (b - 48)) bytes).0 (digits_at (n * 10 + (b - 48)) bytes).1 = record { ds = b ∷ t.ds; all = and_from (is_digit b) (all_digits t.ds) d t.all; is = ap (λ (x : List ℕ). b ∷ x) t.is; valued = t.valued; after = t.after } in
+      let more : TookDigits n (b ∷ bytes) (digits_at (n * 10 + (b - 48)) bytes).0 (digits_at (n * 10 + (b - 48)) bytes).1 = record { ds = b ∷ t.ds; all = and_from (is_digit b) (are_digits t.ds) d t.all; is = ap (λ (x : List ℕ). b ∷ x) t.is; valued = t.valued; after = t.after } in
       rw d more
   | inr o ↦
       let none : TookDigits n (b ∷ bytes) n (b ∷ bytes) = record { ds = []; all = refl; is = refl; valued = refl; after = o } in
@@ -81,7 +81,7 @@ fold-first d ds high = grows (0 * 10 + (d - 48)) ds (omega (arith, high))
     grows n [] some = some
     grows n (c ∷ cs) some = grows (n * 10 + (c - 48)) cs (omega (arith, some))
 
-part-took : (b : ℕ) (bytes : List ℕ) (n : ℕ) (rest ds : List ℕ) → is_digit b ≡ true → 49 ≤ b → n ≤ MAX_PART → all_digits ds ≡ true → b ∷ bytes ≡ ds ++ rest → fold_on 0 ds ≡ n → IsAfterDigits rest → TakesPart (b ∷ bytes) n rest
+part-took : (b : ℕ) (bytes : List ℕ) (n : ℕ) (rest ds : List ℕ) → is_digit b ≡ true → 49 ≤ b → n ≤ MAX_PART → are_digits ds ≡ true → b ∷ bytes ≡ ds ++ rest → fold_on 0 ds ≡ n → IsAfterDigits rest → TakesPart (b ∷ bytes) n rest
 part-took b bytes n rest [] digit high most all is valued after =
     let stop : is_digit b ≡ false = subst IsAfterDigits (sym is) after in
     absurd (false≢true (sym stop ∙ digit))

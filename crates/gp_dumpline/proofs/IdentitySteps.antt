@@ -1,7 +1,7 @@
 -- One step of reading an identity, as the code takes it: its numbers, its sources, and the further sources behind those that were read.
-use Rattle.std.proofs.Common.{◌≡◌, ℕ, zero, suc, ◌+◌, ◌*◌, ◌-◌, ◌<◌, ◌≤◌, min, true, false, leb, List, [], ◌∷◌, ◌++◌, length, get_or, drop, Option, Some, None, refl, sym, ap, ◌∙◌, arith, inl, inr}
+use Rattle.std.proofs.Common.{◌≡◌, ℕ, zero, suc, ◌+◌, ◌*◌, ◌-◌, ◌<◌, ◌≤◌, min, true, leb, List, [], ◌∷◌, ◌++◌, length, get_or, drop, Option, Some, None, refl, sym, ap, ◌∙◌, arith, inl, inr}
 use Rattle.std.proofs.lemmas.Bool.{cases_Bool}
-use Rattle.std.proofs.lemmas.List.{drop_more, drop_all}
+use Rattle.std.proofs.lemmas.List.{drop_more}
 use Rattle.std.proofs.Common.{option_and_then, ◌≢◌}
 use Rattle.std.proofs.lemmas.Bool.{cond-true, cond-false, le-leb, lt-leb}
 use Rattle.gp_base.specs.Identities.{Identity, Sources, identity, no_sources, source, nodes}
@@ -31,16 +31,6 @@ digits-more n next at bytes within digit is =
     let h : min next 1000000000 ≡ min (n * 10 + (get_or bytes at 0 - 48)) 1000000000 = omega (arith, is) in
     let first : digits_at n (get_or bytes at 0 ∷ drop (at + 1) bytes) ≡ digits_at (n * 10 + (get_or bytes at 0 - 48)) (drop (at + 1) bytes) = rw digit refl in
     same next (n * 10 + (get_or bytes at 0 - 48)) (drop (at + 1) bytes) h ∙ ap capped (sym first) ∙ ap (λ (z : List ℕ). capped (digits_at n z)) (sym (drop_more bytes at 0 within))
-
-pub digits-stop : (n at : ℕ) (bytes : List ℕ) → at < length bytes → is_digit (get_or bytes at 0) ≡ false → digits_at n (drop at bytes) ≡ (n, drop at bytes)
-digits-stop n at bytes within other =
-    let first : digits_at n (get_or bytes at 0 ∷ drop (at + 1) bytes) ≡ (n, get_or bytes at 0 ∷ drop (at + 1) bytes) = rw other refl in
-    ap (digits_at n) (drop_more bytes at 0 within) ∙ first ∙ ap (λ (z : List ℕ). (n, z)) (sym (drop_more bytes at 0 within))
-
-pub digits-end : (n at : ℕ) (bytes : List ℕ) → length bytes ≤ at → digits_at n (drop at bytes) ≡ (n, [])
-digits-end n at bytes far = ap (digits_at n) (drop_all at bytes far)
-
-pub ruleset digit_steps = (digits-more, digits-stop, digits-end)
 
 -- ---- one step of reading
 
@@ -137,7 +127,7 @@ others-more steps bytes inside rest ids id some one two read =
     let e : others_at steps bytes ≡ option_and_then (joined id) (others_at (steps - 1) rest) = others-step steps (steps - 1) bytes (omega (arith, some)) ∙ rw (one, two) (ap (option_and_then _) read) in
     ap (behind ids) e ∙ behind-push ids id (others_at (steps - 1) rest)
 
--- the same by the parts of the numbers
+-- identity-no_sources where the numbers are given one by one
 pub identity-no_sources-parts : (steps : ℕ) (bytes : List ℕ) (t k n : ℕ) (rest : List ℕ) → steps ≢ 0 → numbers_at bytes ≡ Some (record { t = t; k = k; n = n; rest = rest }) → sources_at (steps - 1) rest ≡ None → identity_at steps bytes ≡ None
 identity-no_sources-parts steps bytes t k n rest some read gone = identity-no_sources steps bytes (record { t = t; k = k; n = n; rest = rest }) some read gone
 

@@ -6,11 +6,11 @@ use Rattle.std.proofs.lemmas.Bool.{cases_Bool, and_parts, le-leb, leb-true, cond
 use Rattle.std.proofs.lemmas.List.{append-nil}
 use Rattle.gp_base.specs.declared.row_id.TheConstants.{MAX_NODES}
 use Rattle.gp_base.specs.Identities.{Identity, Sources, identity, no_sources, source, nodes, nodes_in, identity_text, sources_text, others_text}
-use Rattle.gp_base.specs.Digits.{is_digit}
+use Rattle.gp_base.specs.Digits.{are_digits, is_digit}
 use Rattle.gp_dumpline.specs.RowForms.{Numbers, numbers_at, made, joined, identity_at, sources_at, others_at, identity_of, if_whole, most_steps}
 use Rattle.gp_dumpline.specs.Rows.{IsReadable, AreReadable, IsPart}
 use Rattle.gp_dumpline.proofs.PartLaws.{IsFree, bind}
-use Rattle.gp_dumpline.proofs.NumberLaws.{all_digits, digits_own}
+use Rattle.gp_dumpline.proofs.NumberLaws.{digits_own}
 use Rattle.gp_dumpline.proofs.IdentityNumbers.{IsAfterDigits, numbers-again, numbers-takes, TakesNumbers, chosen, some_is}
 
 -- what may follow an identity
@@ -211,10 +211,10 @@ inside-append : (xs ys : List ℕ) → AreInside xs → AreInside ys → AreInsi
 inside-append [] ys a b = b
 inside-append (x ∷ xs) ys a b = (a.0, inside-append xs ys a.1 b)
 
-digits-inside : (ds : List ℕ) → all_digits ds ≡ true → AreInside ds
+digits-inside : (ds : List ℕ) → are_digits ds ≡ true → AreInside ds
 digits-inside [] all = tt
 digits-inside (d ∷ ds) all =
-    let p = and_parts (is_digit d) (all_digits ds) all in
+    let p = and_parts (is_digit d) (are_digits ds) all in
     let q = and_parts (leb 48 d) (leb d 57) p.0 in
     ((omega (arith, leb-true 48 d q.0), leb-true d 57 q.1), digits-inside ds p.1)
 

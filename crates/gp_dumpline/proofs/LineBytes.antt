@@ -17,10 +17,10 @@ use Rattle.gp_base.specs.Identities.{identity_text}
 use Rattle.gp_base.specs.Texts.{quoted_byte, cell_text, row_text}
 use Rattle.gp_versions.specs.declared.span.Span.{Span}
 use Rattle.gp_grammar.proofs.Utf8Lemmas.{ascii-cons}
-use Rattle.gp_base.specs.Digits.{is_digit}
+use Rattle.gp_base.specs.Digits.{are_digits, is_digit}
 use Rattle.gp_dumpline.specs.Forms.{IsVersion, HasForm}
 use Rattle.gp_dumpline.specs.Texts.{to_text, span_text}
-use Rattle.gp_dumpline.proofs.NumberLaws.{all_digits, digits_own}
+use Rattle.gp_dumpline.proofs.NumberLaws.{digits_own}
 use Rattle.gp_dumpline.proofs.PartLaws.{IsFree, free-append}
 use Rattle.gp_dumpline.proofs.IdentityTexts.{AreInside, identity-inside}
 use Rattle.gp_dumpline.proofs.QuotedUtf8.{quoted-utf8, valid-utf8}
@@ -62,10 +62,10 @@ words-line (b ∷ words) rest all l =
 pub words-alone : (words : List ℕ) → list_all is_plain words ≡ true → IsLine words
 words-alone words all = subst IsLine (append-nil words) (words-line words [] all line-nil)
 
-digits-line : (ds rest : List ℕ) → all_digits ds ≡ true → IsLine rest → IsLine (ds ++ rest)
+digits-line : (ds rest : List ℕ) → are_digits ds ≡ true → IsLine rest → IsLine (ds ++ rest)
 digits-line [] rest all l = l
 digits-line (d ∷ ds) rest all l =
-    let p = and_parts (is_digit d) (all_digits ds) all in
+    let p = and_parts (is_digit d) (are_digits ds) all in
     let q = and_parts (leb 48 d) (leb d 57) p.0 in
     let up : 48 ≤ d = leb-true 48 d q.0 in
     let down : d ≤ 57 = leb-true d 57 q.1 in

@@ -1,43 +1,16 @@
 -- The decimal text of a number is read as this number, and only this text is.
-use Rattle.std.proofs.Common.{◌≡◌, ℕ, zero, suc, ◌+◌, ◌*◌, ◌-◌, ◌^◌, ◌<◌, ◌≤◌, Bool, true, false, cond, leb, eqb, not, ◌&&◌, List, [], ◌∷◌, get_or, Option, Some, None, option_and_then, refl, sym, ap, subst, ◌∙◌, arith, inl, inr}
+use Rattle.std.proofs.Common.{◌≡◌, ℕ, zero, suc, ◌+◌, ◌*◌, ◌-◌, ◌^◌, ◌<◌, ◌≤◌, Bool, true, false, cond, leb, eqb, not, List, [], ◌∷◌, get_or, Option, Some, None, option_and_then, refl, sym, ap, subst, ◌∙◌, arith, inl, inr}
 use Rattle.std.specs.Prelude.{min}
 use Rattle.std.specs.Option.{option_map}
 use Rattle.std.specs.Fmt.{decimal}
-use Rattle.std.specs.Int.{IsInRange}
 use Rattle.std.proofs.lemmas.Bool.{cases_Bool, and_parts, and_from, leb-true, le-leb, cond-true, eqb-false, ne_eqb, not-true}
-use Rattle.std.proofs.lemmas.Str.Parse.{IsNumeralModel, IsDigitsTest, FoldsDigits, numerals_by_fold}
 use Rattle.std.proofs.lemmas.Fmt.{digits_decimal, digits_value-decimal, decimal-digits_value, first_decimal, decimal_digit}
-use Rattle.gp_dumpline.specs.Numbers.{read_on, number_of, number_up_to, beyond_versions, version_of}
+use Rattle.gp_dumpline.specs.Numbers.{number_of, number_up_to, beyond_versions, version_of}
 use Rattle.std.proofs.lemmas.Option.{same_Some}
 use Rattle.gp_dumpline.specs.Rows.{is_numeral}
-use Rattle.gp_base.specs.Digits.{are_digits, is_digit}
-
-abbrev pub all_digits : List ℕ → Bool
-all_digits digits = are_digits digits
-
-abbrev pub fold : ℕ → List ℕ → ℕ
-fold n [] = n
-fold n (c ∷ cs) = fold (10 * n + (c - 48)) cs
-
-in_range : (c : ℕ) → is_digit c ≡ true → IsInRange 48 57 c
-in_range c h = let p = and_parts (leb 48 c) (leb c 57) h in (leb-true 48 c p.0, leb-true c 57 p.1)
-
-test : IsDigitsTest (λ ds. all_digits ds ≡ true)
-test = record {
-  empty = refl;
-  parts = λ c cs h. let p = and_parts (is_digit c) (all_digits cs) h in (in_range c p.0, p.1);
-  more = λ c cs h k. and_from (is_digit c) (all_digits cs) (and_from (leb 48 c) (leb c 57) (le-leb 48 c h.0) (le-leb c 57 h.1)) k;
-}
-
-folds : FoldsDigits fold
-folds = record { empty = λ n. refl; more = λ n c cs h. ap (λ (k : ℕ). fold k cs) (omega arith) }
-
-pub own : IsNumeralModel (λ ds. all_digits ds ≡ true) (fold 0)
-own = numerals_by_fold (λ ds. all_digits ds ≡ true) test fold folds
-
-read-digits : (n : ℕ) (ds : List ℕ) → all_digits ds ≡ true → read_on n ds ≡ Some (fold n ds)
-read-digits n [] all = refl
-read-digits n (d ∷ ds) all = let p = and_parts (is_digit d) (all_digits ds) all in rw p.0 (read-digits (10 * n + (d - 48)) ds p.1)
+use Rattle.gp_base.specs.Digits.{are_digits, is_digit, read_on}
+use Rattle.gp_base.proofs.DigitLemmas.{fold, own}
+use Rattle.gp_base.proofs.SaturatingLemmas.{read-digits}
 
 abbrev nothing : Option ℕ
 nothing = None
@@ -45,20 +18,20 @@ nothing = None
 none_some : (m : ℕ) → nothing ≡ Some m → ⊥
 none_some m e = cc
 
-digits-read : (n : ℕ) (ds : List ℕ) (m : ℕ) → read_on n ds ≡ Some m → (all_digits ds ≡ true) × (fold n ds ≡ m)
+digits-read : (n : ℕ) (ds : List ℕ) (m : ℕ) → read_on n ds ≡ Some m → (are_digits ds ≡ true) × (fold n ds ≡ m)
 digits-read n [] m e = (refl, cc)
 digits-read n (d ∷ ds) m e = elim (cases_Bool (is_digit d)) [
   | inl digit ↦
       let f = rw digit at e in
       let more = digits-read (10 * n + (d - 48)) ds m f in
-      (and_from (is_digit d) (all_digits ds) digit more.0, more.1)
+      (and_from (is_digit d) (are_digits ds) digit more.0, more.1)
   | inr other ↦ let f = rw other at e in absurd (none_some m f)
 ]
 
 zero-text : decimal 0 ≡ 48 ∷ []
 zero-text = decimal_digit 0 (omega arith)
 
-positive : (n : ℕ) (ds : List ℕ) → all_digits ds ≡ true → fold 0 ds ≡ n → 48 < get_or ds 0 0 → number_of ds ≡ Some n
+positive : (n : ℕ) (ds : List ℕ) → are_digits ds ≡ true → fold 0 ds ≡ n → 48 < get_or ds 0 0 → number_of ds ≡ Some n
 positive n [] all value high = absurd (omega (arith, high))
 positive n (d ∷ []) all value high = read-digits 0 (d ∷ []) all ∙ ap (λ (k : ℕ). Some k) value
 positive n (d ∷ e ∷ ds) all value high =
@@ -82,12 +55,12 @@ number-takes (d ∷ c ∷ ds) n e small = elim (cases_Bool (eqb d 48)) [
       sym (decimal-digits_value own (d ∷ c ∷ ds) r.0 (omega arith) (λ h. absurd (eqb-false d 48 other h)) (subst (λ (k : ℕ). k < 2 ^ 64) (sym r.1) small)) ∙ ap decimal r.1
 ]
 
-pub digits_own : (n : ℕ) → n < 2 ^ 64 → all_digits (decimal n) ≡ true
+pub digits_own : (n : ℕ) → n < 2 ^ 64 → are_digits (decimal n) ≡ true
 digits_own n small = digits_decimal own n small
 
 -- ---- numbers of any length
 
-pub numeral-digits : (text : List ℕ) → is_numeral text ≡ true → all_digits text ≡ true
+pub numeral-digits : (text : List ℕ) → is_numeral text ≡ true → are_digits text ≡ true
 numeral-digits [] e = refl
 numeral-digits (d ∷ []) e = and_from (is_digit d) true e refl
 numeral-digits (d ∷ c ∷ ds) e = (and_parts (are_digits (d ∷ c ∷ ds)) (not (eqb d 48)) e).0

@@ -7,8 +7,7 @@ use Rattle.std.proofs.lemmas.Bool.{cases_Bool, and_parts, leb-true, eqb-true, ne
 use Rattle.std.proofs.lemmas.List.{take-append-drop, take_at}
 use Rattle.std.proofs.lemmas.Slice.Eq.{bytes_eq-Decides}
 use Rattle.gp_dumpline.specs.Numbers.{cut_at, behind_words, after_byte}
-use Rattle.gp_base.specs.Digits.{is_digit}
-use Rattle.gp_dumpline.proofs.NumberLaws.{all_digits}
+use Rattle.gp_base.specs.Digits.{are_digits, is_digit}
 
 -- the parts of a chain of readers
 pub bind : {A B : Type 0} (f : A → Option B) (o : Option A) (y : B) → option_and_then f o ≡ Some y → (x : A) × (o ≡ Some x) × (f x ≡ Some y)
@@ -80,10 +79,10 @@ words-takes words text rest e = elim (cases_Bool (bytes_eq (take (length words) 
   | inr other ↦ let f = rw other at e in absurd (none_some rest f)
 ]
 
-pub digits-free : (stop : ℕ) (ds : List ℕ) → stop < 48 → all_digits ds ≡ true → IsFree stop ds
+pub digits-free : (stop : ℕ) (ds : List ℕ) → stop < 48 → are_digits ds ≡ true → IsFree stop ds
 digits-free stop [] low all = tt
 digits-free stop (d ∷ ds) low all =
-    let p = and_parts (is_digit d) (all_digits ds) all in
+    let p = and_parts (is_digit d) (are_digits ds) all in
     let q = and_parts (leb 48 d) (leb d 57) p.0 in
     (ne_eqb d stop (λ e. absurd (omega (arith, low, e, leb-true 48 d q.0))), digits-free stop ds low p.1)
 

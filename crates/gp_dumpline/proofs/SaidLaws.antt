@@ -18,7 +18,7 @@ use Rattle.gp_lexer.proofs.ProperLemmas.{lexemes-proper}
 use Rattle.gp_grammar.specs.Canonical.{command_text, query_lexemes}
 use Rattle.gp_grammar.specs.Capping.{capped_command}
 use Rattle.gp_grammar.specs.CommandGrammar as g
-use Rattle.gp_grammar.specs.CommandGrammar.{IsCommand, IsSessionCommand, IsScriptLine}
+use Rattle.gp_grammar.specs.CommandGrammar.{IsCommand}
 use Rattle.gp_grammar.specs.CommandParsing as c
 use Rattle.gp_grammar.specs.CommandParsing.{command}
 use Rattle.gp_grammar.specs.Limits.{command_shape}

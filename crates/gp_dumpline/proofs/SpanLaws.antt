@@ -15,17 +15,18 @@ use Rattle.gp_dumpline.specs.RowForms.{identity_of, cells_of}
 use Rattle.gp_dumpline.specs.Forms.{to_of, RowLine, row_line_of, span_in, span_of, IsVersion, HasForm}
 use Rattle.gp_dumpline.specs.Rows.{IsReadable, IsRowLine, is_numeral}
 use Rattle.gp_dumpline.specs.Texts.{to_text, span_text}
-use Rattle.gp_dumpline.proofs.NumberLaws.{all_digits, digits_own, numeral-digits, numeral-version, version-again, version-numeral, version-takes}
+use Rattle.gp_dumpline.proofs.NumberLaws.{digits_own, numeral-digits, numeral-version, version-again, version-numeral, version-takes}
 use Rattle.gp_dumpline.proofs.PartLaws.{IsFree, bind, cut-again, cut-takes, digits-free}
 use Rattle.gp_dumpline.proofs.IdentityTexts.{whole-again, whole-takes, identity-free}
 use Rattle.gp_dumpline.proofs.CellTexts.{cells-again, cells-takes}
+use Rattle.gp_base.specs.Digits.{are_digits}
 
 -- ---- where a span ends
 
 to-again : (to : Option ℕ) → IsVersion to → to_of (to_text to) ≡ Some to
 to-again None is = refl
 to-again (Some n) is = elim (cases_Bool (bytes_eq (decimal n) (codes "-"))) [
-  | inl same ↦ absurd (false≢true (subst (λ (bytes : List ℕ). all_digits bytes ≡ true) ((bytes_eq-Decides (decimal n) (codes "-")).0 same) (digits_own n (omega arith))))
+  | inl same ↦ absurd (false≢true (subst (λ (bytes : List ℕ). are_digits bytes ≡ true) ((bytes_eq-Decides (decimal n) (codes "-")).0 same) (digits_own n (omega arith))))
   | inr other ↦ rw (other, version-again n (omega arith)) refl
 ]
 

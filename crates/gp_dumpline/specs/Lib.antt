@@ -6,6 +6,5 @@ pub mod Rows
 pub mod Said
 pub mod Views
 pub mod Laws
-pub mod Digits
 pub mod Sources
 pub mod CellParts

@@ -1,15 +1,10 @@
 -- Machinery: numbers in the lines of a dump, and the parts of a line.
-use Rattle.std.specs.Prelude.{ℕ, ◌^◌, ◌+◌, ◌*◌, ◌-◌, List, [], ◌∷◌, length, take, drop, min, Option, Some, None, option_and_then, nat_le, if◌then◌else◌, ◌==◌}
+use Rattle.std.specs.Prelude.{ℕ, ◌^◌, ◌-◌, List, [], ◌∷◌, length, take, drop, min, Option, Some, None, option_and_then, nat_le, if◌then◌else◌, ◌==◌}
 use Rattle.std.specs.Option.{option_map}
 use Rattle.std.specs.Str.{bytes_eq}
-use Rattle.gp_base.specs.Digits.{is_digit}
+use Rattle.gp_base.specs.Digits.{read_on}
 
 -- ---- numbers
-
--- the number that digits write behind a number; none where a byte is no digit
-abbrev pub read_on : ℕ → List ℕ → Option ℕ
-read_on number [] = Some number
-read_on number (byte ∷ bytes) = if is_digit byte then read_on (10 * number + (byte - 48)) bytes else None
 
 -- a decimal number of any length, without leading zeros
 abbrev pub number_of : List ℕ → Option ℕ

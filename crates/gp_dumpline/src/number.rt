@@ -1,29 +1,14 @@
 //! Numbers in the lines of a dump.
 
-ghost use Rattle.std.specs.Prelude.{◌≡◌, ◌<◌, ◌≤◌, ◌-◌, ◌^◌, IfSome, min};
-ghost use Rattle.std.specs.Option.{option_map};
+ghost use Rattle.std.specs.Prelude.{◌≡◌, ◌<◌, ◌≤◌, ◌-◌, IfSome, min};
+ghost use Rattle.gp_base.specs.Saturating.{saturated};
 ghost use Rattle.gp_dumpline.specs.Numbers.{number_of, number_up_to, version_of};
-ghost use Rattle.gp_dumpline.specs.Digits.{saturating_on, saturating_number};
 
-/// The number of the digits, where one of 64 bits or more is the greatest of 64 bits.
-fn digits_number(text: &[u8]) -> Option<u64>
-    ensures { result ≡ saturating_on 0 text.now }
-{
-    let mut number: u64 = 0;
-    for byte in text {
-        if !byte.is_ascii_digit() {
-            return None;
-        }
-        number = number
-            .saturating_mul(10)
-            .saturating_add(u64::from(*byte - b'0'));
-    }
-    Some(number)
-}
+use gp_base::digits_number;
 
 /// A number without leading zeros, where one of 64 bits or more is the greatest of 64 bits.
 pub(crate) fn parse_number(text: &[u8]) -> Option<u64>
-    ensures { result ≡ saturating_number text.now }
+    ensures { result ≡ saturated (number_of text.now) }
 {
     match text {
         [] => None,

@@ -10,9 +10,9 @@ ghost use Rattle.gp_dumpline.specs.Forms.{said_of};
 ghost use Rattle.gp_dumpline.specs.Said.{begins_read_committed, is_said_in};
 ghost use Rattle.gp_dumpline.specs.Views.{IsValid, said_view};
 
-use gp_base::NoMemory;
+use gp_base::{NoMemory, Stop};
 use gp_check::read_commands_are_valid;
-use gp_syntax::{Command, ReadStop, read_command, write_command};
+use gp_syntax::{Command, read_command, write_command};
 use std::alloc::Global;
 
 /// What a lost COMMIT is written as.
@@ -83,7 +83,7 @@ pub fn parse_said(alloc: Global, text: &[u8]) -> Result<Option<Said>, NoMemory>
                 Ok(None)
             }
         }
-        Err(ReadStop::Refused(_)) => Ok(None),
-        Err(ReadStop::NoMemory) => Err(NoMemory),
+        Err(Stop::Refused(_)) => Ok(None),
+        Err(Stop::NoMemory) => Err(NoMemory),
     }
 }

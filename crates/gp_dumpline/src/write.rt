@@ -47,7 +47,7 @@ pub fn begins_read_committed(entry: &Entry) -> bool
 {
     match &entry.what {
         What::Begin { read_committed } => *read_committed,
-        What::Statement { command, .. } => begins(command),
+        What::Statement { command, .. } => begins(command.as_ref()),
         What::Create(_) => false,
         What::Commit => false,
         What::Lost => false,
@@ -69,7 +69,7 @@ fn said(alloc: Global, what: &What) -> Result<Vec<u8>, NoMemory>
             let read_committed = *read_committed;
             write_command(alloc, &Command::Begin { read_committed })
         }
-        What::Statement { command, .. } => write_command(alloc, command),
+        What::Statement { command, .. } => write_command(alloc, command.as_ref()),
         What::Commit => write_command(alloc, &Command::Commit),
         What::Lost => text_of_pieces(alloc, &[LOST]),
         What::Rollback => write_command(alloc, &Command::Rollback),

@@ -58,7 +58,7 @@ sessions-put spans sessions place running within (suc other) =
     ]
 
 -- one more table, without spans
-spans-added : (versions : List Versions) (table : Versions) → table.spans ≡ [] → (place : ℕ) → spans_of (versions ++ table ∷ []) place ≡ spans_of versions place
+pub spans-added : (versions : List Versions) (table : Versions) → table.spans ≡ [] → (place : ℕ) → spans_of (versions ++ table ∷ []) place ≡ spans_of versions place
 spans-added [] table empty zero = empty
 spans-added [] table empty (suc place) = refl
 spans-added (first ∷ versions) table empty zero = refl
@@ -81,7 +81,7 @@ rows-added tables new versions table count empty =
 pub kept-as : (engine : Engine) (entries : List Entry) (versions : List Versions) (sessions : List (Option Running)) → Keeps engine entries versions sessions → kept_of engine ≡ kept_by entries versions sessions
 kept-as engine entries versions sessions keeps = λ i. kept_by (keeps.log_is i) (keeps.versions_are i) (keeps.sessions_are i)
 
--- the same spans, whatever their memory
+-- what is kept is of the spans alone, whatever memory the versions have
 kept-respanned : (entries : List Entry) (versions others : List Versions) (sessions : List (Option Running)) → ((place : ℕ) → spans_of others place ≡ spans_of versions place)
     → kept_by entries others sessions ≡ kept_by entries versions sessions
 kept-respanned entries versions others sessions same =

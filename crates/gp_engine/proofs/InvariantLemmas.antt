@@ -46,6 +46,7 @@ use Rattle.gp_engine.proofs.OverlayLemmas.{snapshot_first, snapshot_later}
 use Rattle.gp_engine.proofs.PublishLemmas.{committed_sound, session_left}
 use Rattle.gp_engine.proofs.SessionLemmas.{count-cleared, count-replaced, count-taken}
 use Rattle.std.proofs.lemmas.Option.{same_Some}
+use Rattle.gp_engine.proofs.FollowLemmas.{spans-added}
 
 -- ---- sessions
 
@@ -145,13 +146,6 @@ unchanged_engine old new kept same =
     (respanned (entries_of old) old.versions new.versions old.sessions kept same.spans same.tables)
 
 -- ---- CREATE TABLE
-
--- a table without row versions has no spans
-spans-added : (versions : List Versions) (added : Versions) → added.spans ≡ [] → (place : ℕ) → spans_of (versions ++ added ∷ []) place ≡ spans_of versions place
-spans-added [] added empty zero = empty
-spans-added [] added empty (suc place) = refl
-spans-added (held ∷ versions) added empty zero = refl
-spans-added (held ∷ versions) added empty (suc place) = spans-added versions added empty place
 
 -- the number of tables is tested first
 has-room : (full : Bool) (refusal : Refusal) (rest : Option Refusal) → (if full then Some refusal else rest) ≡ None → full ≡ false

@@ -4,13 +4,6 @@ use Rattle.std.specs.Prelude.{slice_set, IsSome}
 use Rattle.gp_engine.specs.Engine.{count_running}
 use Rattle.gp_engine.specs.declared.running.Running.{Running}
 
--- what a test of the place has found is the transaction there
-pub session-found : (sessions : List (Option Running)) (place : ℕ) (found : Option Running) (running : Running)
-    → found ≡ get_or sessions place found → get_or sessions place None ≡ Some running → found ≡ Some running
-session-found [] place found running is at = absurd cc
-session-found (session ∷ sessions) zero found running is at = is ∙ at
-session-found (session ∷ sessions) (suc place) found running is at = session-found sessions place found running is at
-
 pub session-there : (sessions : List (Option Running)) (place : ℕ) (found : Option Running) (running : Running) → place < length sessions
     → found ≡ get_or sessions place found → found ≡ Some running → get_or sessions place None ≡ Some running
 session-there [] place found running within is some = absurd (omega (arith, within))

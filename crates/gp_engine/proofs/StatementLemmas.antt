@@ -14,8 +14,8 @@ use Rattle.gp_log.specs.Parameters.{parameters}
 use Rattle.gp_log.specs.Logs.{log_view}
 use Rattle.gp_engine.specs.Engine.{Engine, IsEngine, IsUnchanged, entries_of}
 use Rattle.gp_engine.specs.Methods.{AcceptsAt, Answers, Appends, HasRun, RunsChecked, StopsBy, meaning_of, refusal_at}
-use Rattle.gp_engine.specs.declared.running.RunStop.{RunStop}
-use Rattle.gp_engine.specs.declared.running.RunStop.TheVariants as run
+use Rattle.gp_base.specs.declared.stop.Stop.{Stop}
+use Rattle.gp_base.specs.declared.stop.Stop.TheVariants as run
 use Rattle.gp_engine.specs.declared.running.Running.{Running}
 
 steps-below : (steps full : Bool) (first second : Refusal) (meaning : Result Statement Refusal) (statement : Statement)
@@ -29,7 +29,7 @@ few-steps own all meaning statement is = leb-false MAX_STEPS own (steps-below (n
 
 module _ (old new : Engine) (answer : Reply) (line place : ℕ) (running : Running) (command : Command) where
   -- a statement that does not run leaves the engine as it was
-  pub checked-refused : (statement : Statement) (refusal : Option Refusal) (stop : RunStop) → StopsBy stop refusal → IsUnchanged old new → Answers stop answer
+  pub checked-refused : (statement : Statement) (refusal : Option Refusal) (stop : Stop) → StopsBy stop refusal → IsUnchanged old new → Answers stop answer
       → RunsChecked old new answer line place running command statement refusal
   checked-refused statement refusal (run.Refused by) is same says = subst (RunsChecked old new answer line place running command statement) (sym is) (same, says)
   checked-refused statement refusal run.NoMemory is same says = absurd says

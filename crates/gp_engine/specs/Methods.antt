@@ -34,8 +34,8 @@ use Rattle.gp_log.specs.Parameters.{parameters}
 use Rattle.gp_log.specs.LogCounts.{open_in}
 use Rattle.gp_log.specs.Logs.{Logged, log_view}
 use Rattle.gp_engine.specs.declared.running.Running.{Running}
-use Rattle.gp_engine.specs.declared.running.RunStop.{RunStop}
-use Rattle.gp_engine.specs.declared.running.RunStop.TheVariants as run
+use Rattle.gp_base.specs.declared.stop.Stop.{Stop}
+use Rattle.gp_base.specs.declared.stop.Stop.TheVariants as run
 use Rattle.gp_engine.specs.Engine.{Engine, IsUnchanged, entries_of, newest_of, statements_of, tables_of, transactions_of}
 
 -- ---- a statement of a running transaction
@@ -77,12 +77,12 @@ module _ (tables : List Table) (versions : List Versions) (newest : ℕ) (old : 
     pub says : answer ≡ reply_of unannotated old.active.t (suc old.statements) statement start
 
 -- a statement does not run as this refuses it, or memory ran out, which may come in any
-abbrev pub StopsBy : RunStop → Option Refusal → Type 0
+abbrev pub StopsBy : Stop → Option Refusal → Type 0
 StopsBy (run.Refused refusal) found = found ≡ Some refusal
 StopsBy run.NoMemory found = Unit {0}
 
 -- this is the answer to its line; there is none where memory ran out
-abbrev pub Answers : RunStop → Reply → Type 0
+abbrev pub Answers : Stop → Reply → Type 0
 Answers (run.Refused refusal) answer = answer ≡ reply.Refused refusal
 Answers run.NoMemory answer = ⊥
 

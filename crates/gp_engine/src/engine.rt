@@ -18,6 +18,7 @@ use gp_syntax::Command;
 use gp_versions::VersionTable;
 use std::alloc::Global;
 use std::marker::Model;
+use std::rc::Rc;
 
 /// The engine, between two lines of a script.
 #[derive(Drop)]
@@ -74,17 +75,17 @@ impl Engine {
     /// command, if the line is accepted. The command was read, so it is valid ([`gp_check::read_lines_are_valid`]). A line that
     /// is refused leaves the log, the rows of every version and all transactions unchanged, unless it is a COMMIT that is lost,
     /// which ends its transaction; so does running out of memory. A ROLLBACK never runs out of memory.
-    pub fn line(&mut self, line: u32, session: u32, command: Command) -> Result<Reply, NoMemory>
+    pub fn line(&mut self, line: u32, session: u32, command: Rc<Command>) -> Result<Reply, NoMemory>
         requires first { 1 ≤ session }
         requires last { session ≤ MAX_SESSION }
-        requires valid { is_valid (command_view command) ≡ true }
+        requires valid { is_valid (command_view command.value) ≡ true }
         ensures follows { IfOk result
-            (Follows self.old self.new line session (command_view command)) }
+            (Follows self.old self.new line session (command_view command.value)) }
         ensures unrecorded { IfOk result (λ reply.
-            is_recorded (action_of (command_view command)) reply ≡ false
+            is_recorded (action_of (command_view command.value)) reply ≡ false
             → IsUnchanged self.old self.new) }
         ensures err { OnErr result (IsUnchanged self.old self.new) }
-        ensures rollback { command_view command ≡ y.rollback → IsOk result }
+        ensures rollback { command_view command.value ≡ y.rollback → IsOk result }
     {
         self.state.line(line, session as usize - 1, command)
     }

@@ -13,6 +13,7 @@ use crate::state::State;
 use gp_base::{NoMemory, Refusal};
 use gp_machine::Reply;
 use gp_syntax::Command;
+use std::rc::Rc;
 
 /// Whether a command is a statement.
 fn is_statement(command: &Command) -> bool
@@ -93,19 +94,19 @@ impl State {
     }
 
     /// A command in the session at a place.
-    pub fn line(&mut self, line: u32, place: usize, command: Command) -> Result<Reply, NoMemory>
+    pub fn line(&mut self, line: u32, place: usize, command: Rc<Command>) -> Result<Reply, NoMemory>
         requires place { place < 64 }
         requires engine { IsEngine self.old }
-        requires valid { is_valid (command_view command) ≡ true }
+        requires valid { is_valid (command_view command.value) ≡ true }
         ensures ok { IfOk result (λ reply. DoesAt self.old self.new reply line place
-            (running_at self.old place) (action_of (command_view command))) }
+            (running_at self.old place) (action_of (command_view command.value))) }
         ensures err { OnErr result (IsUnchanged self.old self.new) }
-        ensures rollback { command_view command ≡ y.rollback → IsOk result }
+        ensures rollback { command_view command.value ≡ y.rollback → IsOk result }
     {
-        if self.runs(place, &command) {
+        if self.runs(place, command.as_ref()) {
             self.statement(line, place, command)
         } else {
-            self.control(line, place, &command)
+            self.control(line, place, command.as_ref())
         }
     }
 }

@@ -11,8 +11,8 @@ ghost use Rattle.gp_engine.specs.Methods.{Adds, Begins, Creates};
 
 use crate::running::Running;
 use crate::state::State;
-use gp_base::{Limit, MAX_TABLES, NoMemory, Refusal, Table};
-use gp_check::{CheckStop, check_table};
+use gp_base::{Limit, MAX_TABLES, NoMemory, Refusal, Stop, Table};
+use gp_check::check_table;
 use gp_log::{Entry, MAX_TRANSACTIONS, What};
 use gp_machine::Reply;
 use gp_txn::Active;
@@ -32,8 +32,8 @@ impl State {
         }
         match check_table(catalog, table) {
             Ok(()) => Ok(None),
-            Err(CheckStop::Refused(refusal)) => Ok(Some(refusal)),
-            Err(CheckStop::NoMemory) => Err(NoMemory),
+            Err(Stop::Refused(refusal)) => Ok(Some(refusal)),
+            Err(Stop::NoMemory) => Err(NoMemory),
         }
     }
 

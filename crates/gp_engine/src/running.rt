@@ -19,8 +19,8 @@ ghost use Rattle.gp_engine.specs.Methods.{Accepts, StopsBy, meaning_of, refusal_
 ghost use Rattle.gp_log.specs.declared.limit.TheConstants.{MAX_STATEMENTS, MAX_STEPS};
 
 use gp_algebra::{Select, Stmt};
-use gp_base::{Catalog, Limit, NoMemory, Refusal};
-use gp_check::{CheckStop, check};
+use gp_base::{Catalog, Limit, NoMemory, Refusal, Stop};
+use gp_check::check;
 use gp_exec::ChooseStop;
 use gp_log::{MAX_STATEMENTS, MAX_STEPS};
 use gp_machine::Reply;
@@ -37,26 +37,6 @@ pub struct Running {
     pub active: Active,
     /// The number of its statements.
     pub statements: u32,
-}
-
-/// Why a statement that was checked does not run.
-#[derive(Drop)]
-pub enum RunStop {
-    /// It is refused.
-    Refused(Refusal),
-    /// Memory ran out, which says nothing of the statement.
-    NoMemory,
-}
-
-impl From<NoMemory> for RunStop {
-    ghost use Rattle.std.specs.Prelude.{◌≡◌};
-    ghost use Rattle.gp_engine.specs.declared.running.RunStop.TheVariants as stop;
-
-    ghost from_gives = { λ _ e. e ≡ stop.NoMemory };
-
-    fn from(_error: NoMemory) -> RunStop {
-        RunStop::NoMemory
-    }
 }
 
 /// The refusal of one more statement, if its transaction has this many and the script that many.
@@ -77,15 +57,15 @@ fn count_refusal(own: u32, all: u32) -> Option<Refusal>
 }
 
 /// The stop of an INSERT that would leave too many rows.
-fn too_many_rows(catalog: &Catalog, stmt: &Stmt) -> RunStop
+fn too_many_rows(catalog: &Catalog, stmt: &Stmt) -> Stop
     requires { target_of (statement_view stmt.now) < length catalog.now }
     ensures { StopsBy result (Some (Refusal.E12
         (name_at (target_of (statement_view stmt.now)) catalog.now))) }
 {
     let place = stmt.target().unwrap_or(0);
     match catalog.table(place).name.clone() {
-        Ok(table) => RunStop::Refused(Refusal::E12 { table }),
-        Err(_) => RunStop::NoMemory,
+        Ok(table) => Stop::Refused(Refusal::E12 { table }),
+        Err(_) => Stop::NoMemory,
     }
 }
 
@@ -97,7 +77,7 @@ impl Running {
         catalog: &Catalog,
         versions: &[VersionTable],
         newest: u32,
-    ) -> Result<Reply, RunStop>
+    ) -> Result<Reply, Stop>
         requires few { length versions.now ≤ MAX_TABLES }
         requires tables { length versions.now ≡ length catalog.now }
         requires writes { is_applicable (length versions.now) (statement_view stmt.now) ≡ true }
@@ -118,8 +98,8 @@ impl Running {
                 Ok(Reply::Wrote { rows })
             }
             Err(StmtStop::Rows) => Err(too_many_rows(catalog, stmt)),
-            Err(StmtStop::Ancestry) => Err(RunStop::Refused(Refusal::E13)),
-            Err(StmtStop::NoMemory) => Err(RunStop::NoMemory),
+            Err(StmtStop::Ancestry) => Err(Stop::Refused(Refusal::E13)),
+            Err(StmtStop::NoMemory) => Err(Stop::NoMemory),
         }
     }
 
@@ -129,7 +109,7 @@ impl Running {
         select: &Select,
         versions: &[VersionTable],
         newest: u32,
-    ) -> Result<Reply, RunStop>
+    ) -> Result<Reply, Stop>
         requires few { length versions.now ≤ MAX_TABLES }
         requires readable { is_readable (length versions.now) (select_view select.now) ≡ true }
         requires count { self.old.statements < MAX_STEPS }
@@ -146,8 +126,8 @@ impl Running {
                 self.statements += 1;
                 Ok(Reply::Rows(rows))
             }
-            Err(ChooseStop::TooMany) => Err(RunStop::Refused(Refusal::E27)),
-            Err(ChooseStop::NoMemory) => Err(RunStop::NoMemory),
+            Err(ChooseStop::TooMany) => Err(Stop::Refused(Refusal::E27)),
+            Err(ChooseStop::NoMemory) => Err(Stop::NoMemory),
         }
     }
 
@@ -158,7 +138,7 @@ impl Running {
         catalog: &Catalog,
         versions: &[VersionTable],
         newest: u32,
-    ) -> Result<Reply, RunStop>
+    ) -> Result<Reply, Stop>
         requires few { length versions.now ≤ MAX_TABLES }
         requires tables { length versions.now ≡ length catalog.now }
         requires fits { statement_fits catalog.now (statement_view stmt.now) ≡ true }
@@ -184,7 +164,7 @@ impl Running {
         command: &Command,
         all: u32,
         catalog: &Catalog,
-    ) -> Result<Stmt, CheckStop>
+    ) -> Result<Stmt, Stop>
         requires statement { is_statement (command_view command.now) ≡ true }
         requires valid { is_valid (command_view command.now) ≡ true }
         requires catalog { tables_are_valid catalog.now ≡ true }
@@ -195,7 +175,7 @@ impl Running {
             (λ stmt. statement_fits catalog.now (statement_view stmt) ≡ true) }
     {
         if let Some(refusal) = count_refusal(self.statements, all) {
-            return Err(CheckStop::Refused(refusal));
+            return Err(Stop::Refused(refusal));
         }
         check(alloc, catalog, command)
     }

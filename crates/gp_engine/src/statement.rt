@@ -15,29 +15,28 @@ ghost use Rattle.gp_log.specs.declared.limit.TheConstants.{MAX_STEPS};
 ghost use Rattle.gp_engine.specs.Engine.{IsEngine, IsUnchanged, statements_of, tables_of};
 ghost use Rattle.gp_engine.specs.Methods.{AcceptsAt, Answers, Appends, HasRun, IfRuns, Runs, RunsChecked, StopsBy, meaning_of, refusal_at, running_at};
 
-use crate::running::RunStop;
 use crate::state::State;
 use gp_algebra::Stmt;
-use gp_base::{NoMemory, Refusal};
-use gp_check::CheckStop;
+use gp_base::{NoMemory, Refusal, Stop};
 use gp_log::What;
 use gp_machine::Reply;
 use gp_syntax::Command;
 use gp_txn::index_for;
+use std::rc::Rc;
 
 /// The answer to a statement that does not run.
-fn answer(stop: RunStop) -> Result<Reply, NoMemory>
+fn answer(stop: Stop) -> Result<Reply, NoMemory>
     ensures { IfOk result (λ reply. Answers stop reply) }
 {
     match stop {
-        RunStop::Refused(refusal) => Ok(Reply::Refused(refusal)),
-        RunStop::NoMemory => Err(NoMemory),
+        Stop::Refused(refusal) => Ok(Reply::Refused(refusal)),
+        Stop::NoMemory => Err(NoMemory),
     }
 }
 
 impl State {
     /// Checks a statement of the session at a place.
-    fn check_at(&self, place: usize, command: &Command) -> Result<Stmt, CheckStop>
+    fn check_at(&self, place: usize, command: &Command) -> Result<Stmt, Stop>
         requires place { place < 64 }
         requires statement { is_statement (command_view command.now) ≡ true }
         requires valid { is_valid (command_view command.now) ≡ true }
@@ -50,7 +49,7 @@ impl State {
         ensures there { OnOk result (IsSome (running_at self.now place)) }
     {
         match &self.sessions[place] {
-            None => Err(CheckStop::Refused(Refusal::E10)),
+            None => Err(Stop::Refused(Refusal::E10)),
             Some(running) => running.check(
                 self.alloc,
                 command,
@@ -72,7 +71,7 @@ impl State {
     }
 
     /// Runs a statement in the session at a place, once the log has a place for it.
-    fn apply_at(&mut self, place: usize, stmt: &Stmt) -> Result<Reply, RunStop>
+    fn apply_at(&mut self, place: usize, stmt: &Stmt) -> Result<Reply, Stop>
         requires place { place < 64 }
         requires fits { statement_fits (tables_of self.old) (statement_view stmt.now) ≡ true }
         requires engine { IsEngine self.old }
@@ -89,7 +88,7 @@ impl State {
         self.prepare(stmt)?;
         let newest = self.log.commits();
         match &mut self.sessions[place] {
-            None => Err(RunStop::Refused(Refusal::E10)),
+            None => Err(Stop::Refused(Refusal::E10)),
             Some(running) => running.apply(stmt, self.log.catalog(), &self.versions, newest),
         }
     }
@@ -106,14 +105,14 @@ impl State {
     }
 
     /// Adds a statement of the session at a place to the log, which has a place for it.
-    fn keep(&mut self, line: u32, place: usize, command: Command, stmt: Stmt)
+    fn keep(&mut self, line: u32, place: usize, command: Rc<Command>, stmt: Rc<Stmt>)
         requires place { place < 64 }
         requires few { length self.old.log.entries < 2 ^ 32 - 1 }
         requires ready { self.old.log.ready ≡ true }
         requires ran { HasRun self.old place }
         ensures { IfRuns self.old place (λ running. Appends self.old self.new
-            (m.Ran line (suc place) (command_view command) running.active.t
-            (statement_view stmt))) }
+            (m.Ran line (suc place) (command_view command.value) running.active.t
+            (statement_view stmt.value))) }
     {
         let t = self.number(place);
         let k = self.steps(place);
@@ -128,22 +127,22 @@ impl State {
         &mut self,
         line: u32,
         place: usize,
-        command: Command,
-        stmt: Stmt,
+        command: Rc<Command>,
+        stmt: Rc<Stmt>,
     ) -> Result<Reply, NoMemory>
         requires place { place < 64 }
         requires there { IsSome (running_at self.old place) }
-        requires fits { statement_fits (tables_of self.old) (statement_view stmt) ≡ true }
+        requires fits { statement_fits (tables_of self.old) (statement_view stmt.value) ≡ true }
         requires engine { IsEngine self.old }
         requires count { IfRuns self.old place (λ running. running.statements < MAX_STEPS) }
         ensures ok { IfOk result (λ reply. IfRuns self.old place
             (λ running. RunsChecked self.old self.new reply line place running
-            (command_view command) (statement_view stmt)
-            (refusal_at self.old running (statement_view stmt)))) }
+            (command_view command.value) (statement_view stmt.value)
+            (refusal_at self.old running (statement_view stmt.value)))) }
         ensures err { OnErr result (IsUnchanged self.old self.new) }
     {
         // A command and a statement have many parts, and each way out that owns them lets them all go: so there is one.
-        match self.apply_at(place, &stmt) {
+        match self.apply_at(place, stmt.as_ref()) {
             Ok(reply) => {
                 self.keep(line, place, command, stmt);
                 Ok(reply)
@@ -157,20 +156,23 @@ impl State {
         &mut self,
         line: u32,
         place: usize,
-        command: Command,
+        command: Rc<Command>,
     ) -> Result<Reply, NoMemory>
         requires place { place < 64 }
-        requires statement { is_statement (command_view command) ≡ true }
-        requires valid { is_valid (command_view command) ≡ true }
+        requires statement { is_statement (command_view command.value) ≡ true }
+        requires valid { is_valid (command_view command.value) ≡ true }
         requires engine { IsEngine self.old }
         ensures ok { IfOk result (λ reply. IfRuns self.old place
-            (λ running. Runs self.old self.new reply line place running (command_view command))) }
+            (λ running. Runs self.old self.new reply line place running (command_view command.value))) }
         ensures err { OnErr result (IsUnchanged self.old self.new) }
     {
-        match self.check_at(place, &command) {
-            Ok(stmt) => self.run(line, place, command, stmt),
-            Err(CheckStop::Refused(refusal)) => Ok(Reply::Refused(refusal)),
-            Err(CheckStop::NoMemory) => Err(NoMemory),
+        match self.check_at(place, command.as_ref()) {
+            Ok(stmt) => {
+                let stmt = Rc::new(self.alloc, stmt)?;
+                self.run(line, place, command, stmt)
+            }
+            Err(Stop::Refused(refusal)) => Ok(Reply::Refused(refusal)),
+            Err(Stop::NoMemory) => Err(NoMemory),
         }
     }
 }

@@ -18,7 +18,6 @@ use Rattle.gp_base.specs.declared.text.TheConstants.{MAX_TEXT_LENGTH}
 use Rattle.gp_dumpline.proofs.QuotedUtf8.{valid-utf8}
 use Rattle.gp_lexer.specs.declared.gap.Gap.{Gap}
 use Rattle.gp_lexer.specs.declared.gap.Gap.TheVariants.{Start}
-use Rattle.gp_lexer.specs.declared.lexeme.Symbol.{Symbol}
 use Rattle.gp_lexer.specs.declared.lexeme.Symbol.TheVariants as s
 use Rattle.gp_lexer.specs.declared.lexeme.Lexeme.{Lexeme}
 use Rattle.gp_lexer.specs.declared.lexeme.Lexeme.TheVariants.{Symbol as Sign, Word, Number, Big, Text}
@@ -30,10 +29,11 @@ use Rattle.gp_lexer.proofs.SpellingLemmas.{name-parts}
 use Rattle.gp_grammar.specs.declared.limits.TheConstants.{MAX_COLUMNS, MAX_LINE_LENGTH, MAX_VALUES}
 use Rattle.gp_grammar.specs.Canonical.{cell_lexemes, column_definition_lexemes, command_lexemes, kind_lexeme, listed_lexemes, tuple_lexemes}
 use Rattle.gp_grammar.specs.CommandGrammar as g
-use Rattle.gp_grammar.specs.CommandGrammar.{IsColumn, IsCommand, IsList, IsLiteral, IsTuple, comma}
+use Rattle.gp_grammar.specs.CommandGrammar.{IsColumn, IsList, IsLiteral, IsTuple, comma}
 use Rattle.gp_grammar.specs.Syntax as y
 use Rattle.gp_grammar.specs.Syntax.{Command, Lexemes}
 use Rattle.gp_csv.specs.Scripts.{session_line}
+use Rattle.gp_base.proofs.SmallLemmas.{each_append}
 use Rattle.gp_load.proofs.ReadLemmas.{IsReadable}
 
 abbrev pub IsSome : {A : Type 0} → List A → Type 0
@@ -93,108 +93,76 @@ IsNamed column = is_name column.name ≡ true
 column-derived : (column : Column) → IsNamed column → IsColumn (column_definition_lexemes column) column
 column-derived column e = kind-derived column.name column.kind
 
--- ---- what holds of each lexeme
-
-abbrev Every : (Lexeme → Type 0) → Lexemes → Type 0
-Every Q ls = AllByRecursion Q ls
-
-every-append : (Q : Lexeme → Type 0) (a b : Lexemes) → Every Q a → Every Q b → Every Q (a ++ b)
-every-append Q [] b h k = k
-every-append Q (t ∷ a) b h k = (h.0, every-append Q a b h.1 k)
-
--- a property of all symbols, names, numbers of 64 bits and texts of users
-record IsUsual (Q : Lexeme → Type 0) : Type 0 where
-  symbol : (x : Symbol) → Q (Sign x)
-  big : Q Big
-  number : (n : ℕ) → n < 2 ^ 63 → Q (Number n)
-  word : (name : List ℕ) → is_name name ≡ true → Q (Word name)
-  text : (bytes : List ℕ) → is_user_text bytes ≡ true → Q (Text bytes)
-
-module _ (Q : Lexeme → Type 0) (u : IsUsual Q) where
-  others-usual : {A : Type 0} (lexemes : A → Lexemes) (P : A → Type 0) → ((x : A) → P x → Every Q (lexemes x)) → (xs : List A) → AllByRecursion P xs
-      → Every Q (flat_map (λ z. comma ++ lexemes z) xs)
-  others-usual lexemes P one [] all = tt
-  others-usual lexemes P one (x ∷ xs) all =
-      (u.symbol s.Comma, every-append Q (lexemes x) (flat_map (λ z. comma ++ lexemes z) xs) (one x all.0) (others-usual lexemes P one xs all.1))
-
-  list-usual : {A : Type 0} (lexemes : A → Lexemes) (P : A → Type 0) → ((x : A) → P x → Every Q (lexemes x)) → (xs : List A) → AllByRecursion P xs → Every Q (listed_lexemes lexemes xs)
-  list-usual lexemes P one [] all = tt
-  list-usual lexemes P one (x ∷ xs) all = every-append Q (lexemes x) (flat_map (λ z. comma ++ lexemes z) xs) (one x all.0) (others-usual lexemes P one xs all.1)
-
-  bracketed-usual : (ls : Lexemes) → Every Q ls → Every Q (Sign s.Open ∷ (ls ++ (Sign s.Close ∷ [])))
-  bracketed-usual ls all = (u.symbol s.Open, every-append Q ls (Sign s.Close ∷ []) all (u.symbol s.Close, tt))
-
-  negative-usual : (n : ℕ) → n < 2 ^ 63 → (b : Bool) → eqb (suc n) (2 ^ 63) ≡ b → Every Q (Sign s.Minus ∷ cond b Big (Number (suc n)) ∷ [])
-  negative-usual n fits true e = (u.symbol s.Minus, (u.big, tt))
-  negative-usual n fits false e = (u.symbol s.Minus, (u.number (suc n) (let other = eqb-false (suc n) (2 ^ 63) e in lower n fits other), tt))
-    where
-      lower : (n : ℕ) → n < 2 ^ 63 → (suc n ≡ 2 ^ 63 → ⊥) → suc n < 2 ^ 63
-      lower n fits other = elim (cases_Bool (ltb (suc n) (2 ^ 63))) [
-        | inl less ↦ ltb-true (suc n) (2 ^ 63) less
-        | inr more ↦ let large : 2 ^ 63 ≤ suc n = ltb-false (suc n) (2 ^ 63) more in absurd (other (omega (arith, fits, large)))
-      ]
-
-  cell-usual : (c : Cell) → IsUser c → Every Q (cell_lexemes c)
-  cell-usual cell.Null e = (u.symbol s.Null, tt)
-  cell-usual (cell.Int (pos n)) e = (u.number n (ltb-true n (2 ^ 63) e), tt)
-  cell-usual (cell.Int (negsuc n)) e =
-      let p : n ≤ 2 ^ 63 - 1 = leb-true n (2 ^ 63 - 1) (and_parts (leb n (2 ^ 63 - 1)) true e).0 in
-      negative-usual n (omega (arith, p)) (eqb (suc n) (2 ^ 63)) refl
-  cell-usual (cell.Text bytes) e = (u.text bytes e, tt)
-  cell-usual (cell.Id id) e = absurd cc
-  cell-usual (cell.Mark mark) e = absurd cc
-  cell-usual (cell.Mono monomial) e = absurd cc
-
-  tuple-usual : (row : List Cell) → IsUserRow row → Every Q (tuple_lexemes row)
-  tuple-usual row h = bracketed-usual (listed_lexemes cell_lexemes row) (list-usual cell_lexemes IsUser cell-usual row h.cells)
-
-  column-usual : (column : Column) → IsNamed column → Every Q (column_definition_lexemes column)
-  column-usual column e = (u.word column.name e, (by column.kind, tt))
-    where
-      by : (k : Kind) → Q (kind_lexeme k)
-      by kind.Int = u.symbol s.Int
-      by kind.Text = u.symbol s.Text
-
-  insert-usual : (name : List ℕ) (rows : List (List Cell)) → is_name name ≡ true → AllByRecursion IsUserRow rows → Every Q (command_lexemes (y.insert name rows))
-  insert-usual name rows named all = (u.symbol s.Insert, (u.symbol s.Into, (u.word name named, (u.symbol s.Values, list-usual tuple_lexemes IsUserRow tuple-usual rows all))))
-
-  create-usual : (table : Table) → is_name table.name ≡ true → AllByRecursion IsNamed table.cols → Every Q (command_lexemes (y.create table))
-  create-usual table named all =
-      (u.symbol s.Create, (u.symbol s.Table, (u.word table.name named, bracketed-usual (listed_lexemes column_definition_lexemes table.cols) (list-usual column_definition_lexemes IsNamed column-usual table.cols all))))
-
 -- ---- lexemes that a line can hold, with texts in UTF-8
 
-proper-usual : IsUsual IsProper
-proper-usual = record {
-  symbol = λ x. tt;
-  big = tt;
-  number = λ n h. h;
-  word = λ name h. h;
-  text = λ bytes e. text-proper bytes e;
-}
+abbrev IsUsual : Lexeme → Type 0
+IsUsual t = IsProper t × HasUtf8Text t
+
+abbrev AreUsual : Lexemes → Type 0
+AreUsual ls = AllByRecursion IsUsual ls
+
+others-usual : {A : Type 0} (lexemes : A → Lexemes) (P : A → Type 0) → ((x : A) → P x → AreUsual (lexemes x)) → (xs : List A) → AllByRecursion P xs → AreUsual (flat_map (λ z. comma ++ lexemes z) xs)
+others-usual lexemes P one [] all = tt
+others-usual lexemes P one (x ∷ xs) all = ((tt, tt), each_append IsUsual (lexemes x) (flat_map (λ z. comma ++ lexemes z) xs) (one x all.0) (others-usual lexemes P one xs all.1))
+
+list-usual : {A : Type 0} (lexemes : A → Lexemes) (P : A → Type 0) → ((x : A) → P x → AreUsual (lexemes x)) → (xs : List A) → AllByRecursion P xs → AreUsual (listed_lexemes lexemes xs)
+list-usual lexemes P one [] all = tt
+list-usual lexemes P one (x ∷ xs) all = each_append IsUsual (lexemes x) (flat_map (λ z. comma ++ lexemes z) xs) (one x all.0) (others-usual lexemes P one xs all.1)
+
+bracketed-usual : (ls : Lexemes) → AreUsual ls → AreUsual (Sign s.Open ∷ (ls ++ (Sign s.Close ∷ [])))
+bracketed-usual ls all = ((tt, tt), each_append IsUsual ls (Sign s.Close ∷ []) all ((tt, tt), tt))
+
+negative-usual : (n : ℕ) → n < 2 ^ 63 → (b : Bool) → eqb (suc n) (2 ^ 63) ≡ b → AreUsual (Sign s.Minus ∷ cond b Big (Number (suc n)) ∷ [])
+negative-usual n fits true e = ((tt, tt), ((tt, tt), tt))
+negative-usual n fits false e = ((tt, tt), ((let other = eqb-false (suc n) (2 ^ 63) e in lower n fits other, tt), tt))
   where
-    text-proper : (bytes : List ℕ) → is_user_text bytes ≡ true → IsProper (Text bytes)
-    text-proper bytes e =
-        let a = and_parts (eqb (utf8_valid_len bytes) (length bytes)) (leb (length bytes) MAX_TEXT_LENGTH && not (list_any is_ascii_control bytes)) e in
-        let b = and_parts (leb (length bytes) MAX_TEXT_LENGTH) (not (list_any is_ascii_control bytes)) a.1 in
-        (leb-true (length bytes) MAX_TEXT_LENGTH b.0, not-true (list_any is_ascii_control bytes) b.1)
+    lower : (n : ℕ) → n < 2 ^ 63 → (suc n ≡ 2 ^ 63 → ⊥) → suc n < 2 ^ 63
+    lower n fits other = elim (cases_Bool (ltb (suc n) (2 ^ 63))) [
+      | inl less ↦ ltb-true (suc n) (2 ^ 63) less
+      | inr more ↦ let large : 2 ^ 63 ≤ suc n = ltb-false (suc n) (2 ^ 63) more in absurd (other (omega (arith, fits, large)))
+    ]
 
-utf8-usual : IsUsual HasUtf8Text
-utf8-usual = record {
-  symbol = λ x. tt;
-  big = tt;
-  number = λ n h. tt;
-  word = λ name h. tt;
-  text = λ bytes e. valid-utf8 bytes (eqb-true (utf8_valid_len bytes) (length bytes) (and_parts (eqb (utf8_valid_len bytes) (length bytes)) (leb (length bytes) MAX_TEXT_LENGTH && not (list_any is_ascii_control bytes)) e).0);
-}
+text-usual : (bytes : List ℕ) → is_user_text bytes ≡ true → IsUsual (Text bytes)
+text-usual bytes e =
+    let a = and_parts (eqb (utf8_valid_len bytes) (length bytes)) (leb (length bytes) MAX_TEXT_LENGTH && not (list_any is_ascii_control bytes)) e in
+    let b = and_parts (leb (length bytes) MAX_TEXT_LENGTH) (not (list_any is_ascii_control bytes)) a.1 in
+    ((leb-true (length bytes) MAX_TEXT_LENGTH b.0, not-true (list_any is_ascii_control bytes) b.1), valid-utf8 bytes (eqb-true (utf8_valid_len bytes) (length bytes) a.0))
 
-proper-all : (ls : Lexemes) → Every IsProper ls → AreProper ls
+cell-usual : (c : Cell) → IsUser c → AreUsual (cell_lexemes c)
+cell-usual cell.Null e = ((tt, tt), tt)
+cell-usual (cell.Int (pos n)) e = ((ltb-true n (2 ^ 63) e, tt), tt)
+cell-usual (cell.Int (negsuc n)) e =
+    let p : n ≤ 2 ^ 63 - 1 = leb-true n (2 ^ 63 - 1) (and_parts (leb n (2 ^ 63 - 1)) true e).0 in
+    negative-usual n (omega (arith, p)) (eqb (suc n) (2 ^ 63)) refl
+cell-usual (cell.Text bytes) e = (text-usual bytes e, tt)
+cell-usual (cell.Id id) e = absurd cc
+cell-usual (cell.Mark mark) e = absurd cc
+cell-usual (cell.Mono monomial) e = absurd cc
+
+tuple-usual : (row : List Cell) → IsUserRow row → AreUsual (tuple_lexemes row)
+tuple-usual row h = bracketed-usual (listed_lexemes cell_lexemes row) (list-usual cell_lexemes IsUser cell-usual row h.cells)
+
+column-usual : (column : Column) → IsNamed column → AreUsual (column_definition_lexemes column)
+column-usual column e = ((e, tt), (by column.kind, tt))
+  where
+    by : (k : Kind) → IsUsual (kind_lexeme k)
+    by kind.Int = (tt, tt)
+    by kind.Text = (tt, tt)
+
+insert-usual : (name : List ℕ) (rows : List (List Cell)) → is_name name ≡ true → AllByRecursion IsUserRow rows → AreUsual (command_lexemes (y.insert name rows))
+insert-usual name rows named all = ((tt, tt), ((tt, tt), ((named, tt), ((tt, tt), list-usual tuple_lexemes IsUserRow tuple-usual rows all))))
+
+create-usual : (table : Table) → is_name table.name ≡ true → AllByRecursion IsNamed table.cols → AreUsual (command_lexemes (y.create table))
+create-usual table named all =
+    ((tt, tt), ((tt, tt), ((named, tt), bracketed-usual (listed_lexemes column_definition_lexemes table.cols) (list-usual column_definition_lexemes IsNamed column-usual table.cols all))))
+
+proper-all : (ls : Lexemes) → AreUsual ls → AreProper ls
 proper-all [] all = tt
-proper-all (t ∷ ls) all = (all.0, proper-all ls all.1)
+proper-all (t ∷ ls) all = (all.0.0, proper-all ls all.1)
 
-utf8-all : (ls : Lexemes) → Every HasUtf8Text ls → HaveUtf8Texts ls
+utf8-all : (ls : Lexemes) → AreUsual ls → HaveUtf8Texts ls
 utf8-all [] all = tt
-utf8-all (t ∷ ls) all = (all.0, utf8-all ls all.1)
+utf8-all (t ∷ ls) all = (all.0.1, utf8-all ls all.1)
 
 -- ---- INSERT
 
@@ -202,10 +170,12 @@ pub insert-readable : (name : List ℕ) (rows : List (List Cell)) → is_name na
     → length (session_line (y.insert name rows)) ≤ MAX_LINE_LENGTH → IsReadable (y.insert name rows)
 insert-readable name rows named some all few short = record {
   laid = refl;
-  derived = g.insert name (listed_lexemes tuple_lexemes rows) rows (list-derived IsTuple tuple_lexemes IsUserRow tuple-derived rows some all);
-  within = let fits : ltb MAX_VALUES (length rows) ≡ false = le-ltb MAX_VALUES (length rows) few in rw fits refl;
-  proper = proper-all (command_lexemes (y.insert name rows)) (insert-usual IsProper proper-usual name rows named all);
-  texts = utf8-all (command_lexemes (y.insert name rows)) (insert-usual HasUtf8Text utf8-usual name rows named all);
+  again = record {
+    derived = g.insert name (listed_lexemes tuple_lexemes rows) rows (list-derived IsTuple tuple_lexemes IsUserRow tuple-derived rows some all);
+    within = let fits : ltb MAX_VALUES (length rows) ≡ false = le-ltb MAX_VALUES (length rows) few in rw fits refl;
+    are = proper-all (command_lexemes (y.insert name rows)) (insert-usual name rows named all);
+    texts = utf8-all (command_lexemes (y.insert name rows)) (insert-usual name rows named all);
+  };
   short = short;
 }
 
@@ -289,10 +259,12 @@ create-short table named all few =
 pub create-readable : (table : Table) → is_name table.name ≡ true → IsSome table.cols → AllByRecursion IsNamed table.cols → length table.cols ≤ MAX_COLUMNS → IsReadable (y.create table)
 create-readable table named some all few = record {
   laid = refl;
-  derived = g.create table.name (listed_lexemes column_definition_lexemes table.cols) table.cols (list-derived IsColumn column_definition_lexemes IsNamed column-derived table.cols some all);
-  within = let fits : ltb MAX_COLUMNS (length table.cols) ≡ false = le-ltb MAX_COLUMNS (length table.cols) few in rw fits refl;
-  proper = proper-all (command_lexemes (y.create table)) (create-usual IsProper proper-usual table named all);
-  texts = utf8-all (command_lexemes (y.create table)) (create-usual HasUtf8Text utf8-usual table named all);
+  again = record {
+    derived = g.create table.name (listed_lexemes column_definition_lexemes table.cols) table.cols (list-derived IsColumn column_definition_lexemes IsNamed column-derived table.cols some all);
+    within = let fits : ltb MAX_COLUMNS (length table.cols) ≡ false = le-ltb MAX_COLUMNS (length table.cols) few in rw fits refl;
+    are = proper-all (command_lexemes (y.create table)) (create-usual table named all);
+    texts = utf8-all (command_lexemes (y.create table)) (create-usual table named all);
+  };
   short = create-short table named all few;
 }
 
@@ -300,7 +272,7 @@ create-readable table named some all few = record {
 
 pub begin-readable : IsReadable (y.begin false)
 unfolding symbol_text
-begin-readable = record { laid = refl; derived = g.begin; within = refl; proper = (tt, tt); texts = (tt, tt); short = let a = laid_out-length (command_lexemes (y.begin false)) in omega (arith, a) }
+begin-readable = record { laid = refl; again = record { derived = g.begin; within = refl; are = (tt, tt); texts = (tt, tt) }; short = let a = laid_out-length (command_lexemes (y.begin false)) in omega (arith, a) }
 
 pub begin-short : length (session_line (y.begin false)) ≤ 20
 unfolding symbol_text
@@ -312,4 +284,4 @@ commit-short = let a = laid_out-length (command_lexemes y.Command.commit) in ome
 
 pub commit-readable : IsReadable y.Command.commit
 unfolding symbol_text
-commit-readable = record { laid = refl; derived = g.commit; within = refl; proper = (tt, tt); texts = (tt, tt); short = let a = laid_out-length (command_lexemes y.Command.commit) in omega (arith, a) }
+commit-readable = record { laid = refl; again = record { derived = g.commit; within = refl; are = (tt, tt); texts = (tt, tt) }; short = let a = laid_out-length (command_lexemes y.Command.commit) in omega (arith, a) }

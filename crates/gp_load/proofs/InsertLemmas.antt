@@ -1,5 +1,5 @@
 -- An INSERT of rows into the one table: its check, and the rows and identities that it makes.
-use Rattle.std.proofs.Common.{◌≡◌, ℕ, suc, ◌+◌, ◌<◌, ◌≤◌, Bool, true, false, cond, eqb, ltb, ◌&&◌, List, [], ◌∷◌, ◌++◌, length, length-append, map, filter, None, Ok, refl, ap, ◌∙◌, eq-eqb, ne_eqb, le-ltb, arith}
+use Rattle.std.proofs.Common.{◌≡◌, ℕ, suc, ◌+◌, ◌<◌, ◌≤◌, Bool, true, false, eqb, ltb, ◌&&◌, List, [], ◌∷◌, ◌++◌, length, length-append, map, filter, None, Ok, refl, ap, ◌∙◌, eq-eqb, ne_eqb, le-ltb, arith}
 use Rattle.std.specs.List.{AllByRecursion, list_all, list_any}
 use Rattle.std.specs.Str.{bytes_eq}
 use Rattle.std.proofs.lemmas.Bool.{and_parts, and_from, eqb-true, or_left, or_right}
@@ -179,14 +179,6 @@ keeps-all p (x ∷ xs) all = rw all.0 (ap (λ (others : List _). x ∷ others) (
 pub keeps-none : {A : Type 0} (p : A → Bool) (xs : List A) → AllByRecursion (λ x. p x ≡ false) xs → filter p xs ≡ []
 keeps-none p [] all = refl
 keeps-none p (x ∷ xs) all = rw all.0 (keeps-none p xs all.1)
-
-pub filter-few : {A : Type 0} (p : A → Bool) (xs : List A) → length (filter p xs) ≤ length xs
-filter-few p [] = omega arith
-filter-few p (x ∷ xs) = by (p x) (filter-few p xs)
-  where
-    by : (b : Bool) → length (filter p xs) ≤ length xs → length (cond b (x ∷ filter p xs) (filter p xs)) ≤ length (x ∷ xs)
-    by true few = omega (arith, few)
-    by false few = omega (arith, few)
 
 pub unmarked-cells : (rows : List Row) → map (λ (row : Row). row.cells) (map unmarked rows) ≡ map (λ (row : Row). row.cells) rows
 unmarked-cells [] = refl

@@ -12,7 +12,6 @@ use Rattle.gp_lexer.specs.declared.lexeme.Lexeme.{Lexeme}
 use Rattle.gp_lexer.specs.declared.lexeme.Lexeme.TheVariants.{Symbol as Sign, Word}
 use Rattle.gp_lexer.specs.Layout.{laid_out}
 use Rattle.gp_lexer.specs.Lexemes.{symbol_text}
-use Rattle.gp_lexer.specs.ProperLexemes.{AreProper, HaveUtf8Texts}
 use Rattle.gp_lexer.specs.Lexing.{Lexed, Scanned, is_blank, lexed, lexed_at, lexed_from, lexeme_at, reserved_word, sign_at, with_lexeme, word_at}
 use Rattle.gp_lexer.specs.LexResults.{lexemes_of}
 use Rattle.gp_lexer.proofs.LayoutLemmas.{lexemes_of-laid_out}
@@ -20,18 +19,12 @@ use Rattle.gp_lexer.proofs.LineLemmas.{rest-shorter}
 use Rattle.gp_lexer.proofs.PrintableLemmas.{laid_out-plain, laid_out-utf8}
 use Rattle.gp_grammar.specs.declared.limits.TheConstants.{MAX_LINE_LENGTH}
 use Rattle.gp_grammar.specs.Canonical.{command_lexemes, command_text}
-use Rattle.gp_grammar.specs.Capping.{capped_line}
 use Rattle.gp_grammar.specs.CommandGrammar as g
-use Rattle.gp_grammar.specs.CommandGrammar.{IsCommand, IsScriptLine, session_of}
-use Rattle.gp_grammar.specs.CommandParsing.{script_line}
-use Rattle.gp_grammar.specs.Limits.{command_shape, line_shape, passed_limit}
+use Rattle.gp_grammar.specs.CommandGrammar.{session_of}
 use Rattle.gp_grammar.specs.Reading.{script_line_of}
 use Rattle.gp_grammar.specs.Syntax.{Command, Lexemes}
-use Rattle.gp_grammar.proofs.CanonicalCommandDepth.{command-shallow}
-use Rattle.gp_grammar.proofs.LineLaws.{lines-read}
-use Rattle.gp_grammar.proofs.ParserLaws.{lawful-line}
-use Rattle.gp_grammar.proofs.ShapeLemmas.{lines-fair}
 use Rattle.gp_grammar.proofs.Utf8Lemmas.{ascii-cons}
+use Rattle.gp_grammar.proofs.WrittenLines.{IsReadAgain, session_lexemes, line-read as written-read}
 use Rattle.gp_csv.specs.Scripts.{session_line}
 
 -- ---- the lexemes of the end of a line do not depend on the line
@@ -65,31 +58,22 @@ same-lexemes (suc bound) (suc other) line base (x ∷ text) h k = elim (cases_Bo
 
 -- ---- the session
 
-abbrev session_lexemes : Lexemes → Lexemes
-session_lexemes ls = Word (codes "s1") ∷ Sign s.Colon ∷ ls
+abbrev s1_lexemes : Lexemes → Lexemes
+s1_lexemes ls = session_lexemes (codes "s1") ls
 
-after-session : (bound : ℕ) (line text : List ℕ) → found_in (lexed_from (suc (suc (suc bound))) line (codes "s1: " ++ text)) ≡ option_map session_lexemes (found_in (lexed_from bound line text))
+after-session : (bound : ℕ) (line text : List ℕ) → found_in (lexed_from (suc (suc (suc bound))) line (codes "s1: " ++ text)) ≡ option_map s1_lexemes (found_in (lexed_from bound line text))
 unfolding lexed_from lexeme_at word_at sign_at reserved_word symbol_text
 after-session bound line text = by (lexed_from bound line text)
   where
-    by : (read : Lexed) → found_in (with_lexeme (Word (codes "s1")) (length line - length (codes "s1: " ++ text) + 1) (with_lexeme (Sign s.Colon) (length line - length (codes ": " ++ text) + 1) read)) ≡ option_map session_lexemes (found_in read)
+    by : (read : Lexed) → found_in (with_lexeme (Word (codes "s1")) (length line - length (codes "s1: " ++ text) + 1) (with_lexeme (Sign s.Colon) (length line - length (codes ": " ++ text) + 1) read)) ≡ option_map s1_lexemes (found_in read)
     by (Ok p) = refl
     by (Err p) = refl
 
-line-lexemes : (text : List ℕ) (ls : Lexemes) → lexemes_of text ≡ Some ls → lexemes_of (codes "s1: " ++ text) ≡ Some (session_lexemes ls)
+line-lexemes : (text : List ℕ) (ls : Lexemes) → lexemes_of text ≡ Some ls → lexemes_of (codes "s1: " ++ text) ≡ Some (s1_lexemes ls)
 unfolding lexed
 line-lexemes text ls e =
     after-session (suc (length text)) (codes "s1: " ++ text) text
-    ∙ ap (option_map session_lexemes) (same-lexemes (suc (length text)) (length text) (codes "s1: " ++ text) text text (omega arith) (omega arith) ∙ e)
-
--- lexemes that are found without their columns have columns
-record Columns (bytes : List ℕ) (ls : Lexemes) : Type 0 where
-  columns : List ℕ
-  found : lexed bytes ≡ Ok (ls, columns)
-
-columns-by : (bytes : List ℕ) (ls : Lexemes) (read : Lexed) → lexed bytes ≡ read → found_in read ≡ Some ls → Columns bytes ls
-columns-by bytes ls (Ok found) e h = let k : found.0 ≡ ls = cc in record { columns = found.1; found = e ∙ ap (λ z. Ok (z, found.1)) k }
-columns-by bytes ls (Err column) e h = cc
+    ∙ ap (option_map s1_lexemes) (same-lexemes (suc (length text)) (length text) (codes "s1: " ++ text) text text (omega arith) (omega arith) ∙ e)
 
 session-one : session_of (codes "s1") ≡ Some 1
 session-one = refl
@@ -99,10 +83,7 @@ session-one = refl
 -- what a command has that can be read from its canonical text
 pub record IsReadable (c : Command) : Type 0 where
   pub laid : command_text c ≡ laid_out (command_lexemes c)
-  pub derived : IsCommand (command_lexemes c) c
-  pub within : passed_limit (command_shape c) ≡ None
-  pub proper : AreProper (command_lexemes c)
-  pub texts : HaveUtf8Texts (command_lexemes c)
+  pub again : IsReadAgain c
   pub short : length (session_line c) ≤ MAX_LINE_LENGTH
 
 line-utf8 : (text : List ℕ) → IsUtf8 text → IsUtf8 (codes "s1: " ++ text)
@@ -111,19 +92,10 @@ line-utf8 text utf8 =
 
 pub line-read : (c : Command) → IsReadable c → script_line_of (session_line c) ≡ Ok (record { session = 1; command = c })
 line-read c h =
-    let found = columns-by (session_line c) (session_lexemes (command_lexemes c)) (lexed (session_line c)) refl (line-lexemes (command_text c) (command_lexemes c) (ap lexemes_of h.laid ∙ lexemes_of-laid_out (command_lexemes c) h.proper)) in
-    (lines-read script_line IsScriptLine capped_line line_shape lawful-line lines-fair (session_line c) (record { session = 1; command = c })).1 (record {
-      short = h.short;
-      text = record {
-        lexemes = session_lexemes (command_lexemes c);
-        columns = found.columns;
-        lexical = record { utf8 = line-utf8 (command_text c) (subst IsUtf8 (sym h.laid) (laid_out-utf8 (command_lexemes c) h.proper h.texts)); found = found.found };
-        shallow = command-shallow c h.within;
-        derived = g.open_end (session_lexemes (command_lexemes c)) (record { session = 1; command = c }) (g.in_session (codes "s1") 1 (command_lexemes c) c session-one h.derived);
-        within = h.within;
-      };
-    })
+    let a = h.again in
+    written-read (session_line c) (codes "s1") 1 c a session-one (line-utf8 (command_text c) (subst IsUtf8 (sym h.laid) (laid_out-utf8 (command_lexemes c) a.are a.texts)))
+    (line-lexemes (command_text c) (command_lexemes c) (ap lexemes_of h.laid ∙ lexemes_of-laid_out (command_lexemes c) a.are)) h.short
 
 -- it has no control character, and so no line feed and no carriage return
 pub line-plain : (c : Command) → IsReadable c → list_any is_ascii_control (session_line c) ≡ false
-line-plain c h = ap (λ (text : List ℕ). list_any is_ascii_control (codes "s1: " ++ text)) h.laid ∙ laid_out-plain (command_lexemes c) h.proper
+line-plain c h = ap (λ (text : List ℕ). list_any is_ascii_control (codes "s1: " ++ text)) h.laid ∙ (let a = h.again in laid_out-plain (command_lexemes c) a.are)

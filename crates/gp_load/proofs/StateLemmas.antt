@@ -26,9 +26,10 @@ use Rattle.gp_log.specs.Parameters.{parameters}
 use Rattle.gp_log.specs.declared.limit.TheConstants.{MAX_STATEMENTS, MAX_STEPS, MAX_TRANSACTIONS}
 use Rattle.gp_txn.proofs.PairLemmas.{all-filter}
 use Rattle.gp_csv.specs.SheetForms.{is_row_of}
-use Rattle.gp_load.proofs.InsertLemmas.{IsBefore, IsBy, IsWritten, Row, all-mapped, checked-insert, filter-few, given-before, given-by, given-cells, given-written, keeps-all, keeps-none, not-refused, not-written, unmarked-before, unmarked-cells, written-before, written-new}
+use Rattle.gp_load.proofs.InsertLemmas.{IsBefore, IsBy, IsWritten, Row, all-mapped, checked-insert, given-before, given-by, given-cells, given-written, keeps-all, keeps-none, not-refused, not-written, unmarked-before, unmarked-cells, written-before, written-new}
 use Rattle.std.proofs.lemmas.Bool.{lt-leb}
 use Rattle.gp_base.proofs.SmallLemmas.{each_append}
+use Rattle.gp_txn.proofs.RoomLemmas.{filter-few}
 
 abbrev pub Plain : Type 0
 Plain = State (Unit {0})

@@ -1,12 +1,11 @@
 -- The lines of a script's text are those of its commands, numbered from 1.
-use Rattle.std.proofs.Common.{◌≡◌, ℕ, zero, suc, ◌+◌, ◌-◌, ◌<◌, Bool, true, false, not, eqb, ◌||◌, List, [], ◌∷◌, ◌++◌, length, get_or, filter, refl, sym, ap, subst, ◌∙◌, append_assoc, eqb-true, arith}
-use Rattle.std.specs.Char.{is_ascii_control}
-use Rattle.std.specs.List.{AllByRecursion, enumerate_from, list_any, onto_first, slice_split}
-use Rattle.std.specs.Str.Lines.{lines, lines_of_parts, strip_carriage_return}
-use Rattle.std.proofs.lemmas.List.Splits.{length-slice_split}
+use Rattle.std.proofs.Common.{◌≡◌, ℕ, ◌+◌, ◌-◌, true, false, not, ◌||◌, List, [], ◌∷◌, ◌++◌, filter, refl, sym, ap, subst, ◌∙◌, append_assoc}
+use Rattle.std.specs.List.{AllByRecursion, enumerate_from}
+use Rattle.std.specs.Str.Lines.{lines}
 use Rattle.gp_base.specs.Annotated.{unannotated}
 use Rattle.gp_grammar.specs.Syntax.{Command}
 use Rattle.gp_syntax.specs.Lines.{is_answered, script_lines}
+use Rattle.gp_syntax.proofs.LinesLemmas.{first-line}
 use Rattle.gp_machine.specs.Event.{event}
 use Rattle.gp_machine.specs.declared.reply.Reply.{Reply}
 use Rattle.gp_machine.specs.Replies.{is_refusal}
@@ -16,46 +15,8 @@ use Rattle.gp_script.specs.Scripts.{line_outcome, replies_from, state_after}
 use Rattle.gp_csv.specs.Scripts.{session_line, script_text}
 use Rattle.gp_load.proofs.ReadLemmas.{IsReadable, line-plain, line-read}
 use Rattle.gp_load.proofs.StateLemmas.{Accepts, Plain}
-use Rattle.std.proofs.lemmas.Bool.{or_from, or_parts}
+use Rattle.std.proofs.lemmas.Bool.{or_from}
 use Rattle.gp_base.proofs.SmallLemmas.{and_none}
-
--- ---- one line
-
-abbrev is_feed : ℕ → Bool
-is_feed byte = eqb byte 10
-
--- a control character is in no text that has none
-plain-without : (c : ℕ) (text : List ℕ) → is_ascii_control c ≡ true → list_any is_ascii_control text ≡ false → list_any (λ b. eqb b c) text ≡ false
-plain-without c [] control e = refl
-plain-without c (b ∷ text) control e =
-    let h = or_parts (is_ascii_control b) (list_any is_ascii_control text) e in
-    rw (other (eqb b c) refl h.0) (plain-without c text control h.1)
-  where
-    other : (x : Bool) → eqb b c ≡ x → is_ascii_control b ≡ false → eqb b c ≡ false
-    other false same graphic = same
-    other true same graphic = let f : is_ascii_control b ≡ true = ap is_ascii_control (eqb-true b c same) ∙ control in absurd cc
-
-split-text : (text rest : List ℕ) → list_any is_feed text ≡ false → slice_split is_feed (text ++ (10 ∷ rest)) ≡ text ∷ slice_split is_feed rest
-split-text [] rest e = refl
-split-text (b ∷ text) rest e = let h = or_parts (is_feed b) (list_any is_feed text) e in rw h.0 (ap (onto_first b) (split-text text rest h.1))
-
-parts-more : (part : List ℕ) (parts : List (List ℕ)) → 0 < length parts → lines_of_parts (part ∷ parts) ≡ strip_carriage_return part ∷ lines_of_parts parts
-parts-more part [] some = absurd (omega arith)
-parts-more part (next ∷ parts) some = refl
-
-byte-other : (text : List ℕ) (i : ℕ) → list_any (λ b. eqb b 13) text ≡ false → eqb (get_or text i 0) 13 ≡ false
-byte-other [] i e = refl
-byte-other (b ∷ text) zero e = (or_parts (eqb b 13) (list_any (λ b. eqb b 13) text) e).0
-byte-other (b ∷ text) (suc i) e = byte-other text i (or_parts (eqb b 13) (list_any (λ b. eqb b 13) text) e).1
-
-whole-line : (text : List ℕ) → list_any (λ b. eqb b 13) text ≡ false → strip_carriage_return text ≡ text
-whole-line text e = rw (byte-other text (length text - 1) e) refl
-
-first-line : (text rest : List ℕ) → list_any is_ascii_control text ≡ false → lines (text ++ (10 ∷ rest)) ≡ text ∷ lines rest
-first-line text rest e =
-    ap lines_of_parts (split-text text rest (plain-without 10 text refl e))
-    ∙ parts-more text (slice_split is_feed rest) (let n = length-slice_split is_feed rest in omega (arith, n))
-    ∙ ap (λ (x : List ℕ). x ∷ lines rest) (whole-line text (plain-without 13 text refl e))
 
 -- ---- the lines of a script
 

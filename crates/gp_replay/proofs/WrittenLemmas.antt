@@ -1,15 +1,11 @@
 -- The script that is written of lines is read as these lines.
-use Rattle.std.proofs.Common.{◌≡◌, ◌<◌, ◌≤◌, ℕ, zero, suc, ◌+◌, ◌-◌, Bool, true, false, not, eqb, ◌&&◌, nat_lt, ◌/◌, ◌%◌, List, [], ◌∷◌, ◌++◌, length, get_or, filter, Option, Some, None, Result, Ok, Err, refl, ap, subst, ◌∙◌, eqb-true, leb, leb-true, leb-false, arith, if◌then◌else◌}
+use Rattle.std.proofs.Common.{◌≡◌, ◌<◌, ◌≤◌, ℕ, zero, suc, ◌+◌, ◌-◌, Bool, true, false, not, ◌&&◌, nat_lt, ◌/◌, ◌%◌, List, [], ◌∷◌, ◌++◌, length, filter, Option, Some, None, Result, Ok, refl, ap, subst, ◌∙◌, eqb-true, leb, leb-true, leb-false, arith, if◌then◌else◌}
 use Rattle.std.specs.Prelude.{◌==◌, replicate}
 use Rattle.std.specs.Char.{is_ascii_control}
 use Rattle.std.specs.Fmt.{decimal}
-use Rattle.std.specs.List.{AllByRecursion, enumerate_from, list_any, onto_first, slice_split}
-use Rattle.std.specs.Option.{option_map}
-use Rattle.std.specs.Result.{result_ok}
-use Rattle.std.specs.Str.Lines.{lines, lines_of_parts, strip_carriage_return}
-use Rattle.std.proofs.lemmas.Bool.{and_parts, ltb-false, ltb-true, or_parts}
+use Rattle.std.specs.List.{AllByRecursion, enumerate_from, list_any}
+use Rattle.std.proofs.lemmas.Bool.{and_parts, ltb-false, ltb-true}
 use Rattle.std.proofs.lemmas.Fmt.{decimal_digit, decimal_step}
-use Rattle.std.proofs.lemmas.List.Splits.{length-slice_split}
 use Rattle.gp_base.specs.Names.{is_name}
 use Rattle.gp_base.proofs.SmallLemmas.{and_none}
 use Rattle.gp_lexer.specs.declared.gap.Gap.TheVariants.{Start}
@@ -17,7 +13,6 @@ use Rattle.gp_lexer.specs.declared.lexeme.Lexeme.TheVariants.{Symbol as Sign, Wo
 use Rattle.gp_lexer.specs.declared.lexeme.Symbol.TheVariants as s
 use Rattle.gp_lexer.specs.Layout.{empty_page, next_gap}
 use Rattle.gp_lexer.specs.LexResults.{lexemes_of}
-use Rattle.gp_lexer.specs.Lexing.{Lexed, lexed}
 use Rattle.gp_lexer.specs.ProperLexemes.{AreProper, HasUtf8Text, HaveUtf8Texts}
 use Rattle.gp_lexer.proofs.LayoutLemmas.{added, lexemes_of-laid_out, written-added}
 use Rattle.gp_lexer.proofs.PrintableLemmas.{laid_out-plain, laid_out-utf8}
@@ -25,22 +20,22 @@ use Rattle.gp_lexer.proofs.ProperLemmas.{lexemes-proper}
 use Rattle.gp_lexer.proofs.Utf8Lemmas.{texts-utf8}
 use Rattle.gp_grammar.specs.declared.limits.TheConstants.{MAX_LINE_LENGTH, MAX_SESSION}
 use Rattle.gp_grammar.specs.Canonical.{command_lexemes, command_text}
-use Rattle.gp_grammar.specs.Capping.{capped_command, capped_line}
-use Rattle.gp_grammar.specs.CommandGrammar as g
-use Rattle.gp_grammar.specs.CommandGrammar.{IsCommand, IsScriptLine, session_of}
-use Rattle.gp_grammar.specs.CommandParsing.{command as parser, script_line}
-use Rattle.gp_grammar.specs.Limits.{command_shape, line_shape, passed_limit}
+use Rattle.gp_grammar.specs.Capping.{capped_command}
+use Rattle.gp_grammar.specs.CommandGrammar.{IsCommand, session_of}
+use Rattle.gp_grammar.specs.CommandParsing.{command as parser}
+use Rattle.gp_grammar.specs.Limits.{command_shape}
 use Rattle.gp_grammar.specs.LineReading.{Fault, ReadsText}
 use Rattle.gp_grammar.specs.Reading.{command_of, script_line_of}
 use Rattle.gp_grammar.specs.Syntax.{Command, Lexemes, ScriptLine}
-use Rattle.gp_grammar.proofs.CanonicalCommandDepth.{command-shallow}
 use Rattle.gp_grammar.proofs.CanonicalCommands.{command-canonical}
 use Rattle.gp_grammar.proofs.CanonicalLaws.{lexed-lexemes, proper}
 use Rattle.gp_grammar.proofs.CanonicalSource.{command-every}
-use Rattle.gp_grammar.proofs.LineLaws.{lines-read, texts-read}
-use Rattle.gp_grammar.proofs.ParserLaws.{lawful-command, lawful-line}
-use Rattle.gp_grammar.proofs.ShapeLemmas.{commands-fair, lines-fair}
+use Rattle.gp_grammar.proofs.LineLaws.{texts-read}
+use Rattle.gp_grammar.proofs.ParserLaws.{lawful-command}
+use Rattle.gp_grammar.proofs.ShapeLemmas.{commands-fair}
+use Rattle.gp_grammar.proofs.WrittenLines.{IsReadAgain, line-read}
 use Rattle.gp_syntax.specs.Lines.{answered_from, is_answered, script_lines}
+use Rattle.gp_syntax.proofs.LinesLemmas.{first-line}
 use Rattle.gp_machine.specs.Event.{Line}
 use Rattle.gp_log.specs.ScriptLines.{AreLinesAfter, AreScriptLines, IsLineAfter as IsLine}
 use Rattle.gp_log.proofs.LineCommands.{reads-parsed}
@@ -122,13 +117,6 @@ every-texts : (ts : Lexemes) → AllByRecursion HasUtf8Text ts → HaveUtf8Texts
 every-texts [] h = tt
 every-texts (t ∷ ts) h = (h.0, every-texts ts h.1)
 
--- the canonical lexemes of a command that is read again
-record IsReadAgain (c : Command) : Type 0 where
-  derived : IsCommand (command_lexemes c) c
-  within : passed_limit (command_shape c) ≡ None
-  are : AreProper (command_lexemes c)
-  texts : HaveUtf8Texts (command_lexemes c)
-
 read-again : (c : Command) → command_of (command_text c) ≡ Ok c → IsReadAgain c
 read-again c e =
     let r : ReadsText IsCommand command_shape (command_text c) c = (texts-read parser IsCommand capped_command command_shape lawful-command commands-fair (command_text c) c).0 e in
@@ -140,14 +128,6 @@ read-again c e =
       texts = every-texts (command_lexemes c)
           (command-every HasUtf8Text (λ symbol. tt) tt r.lexemes c r.derived (texts-every r.lexemes (texts-utf8 (command_text c) r.lexemes r.lexical.utf8 found)));
     }
-
-record Columns (bytes : List ℕ) (ls : Lexemes) : Type 0 where
-  columns : List ℕ
-  found : lexed bytes ≡ Ok (ls, columns)
-
-columns-by : (bytes : List ℕ) (ls : Lexemes) (read : Lexed) → lexed bytes ≡ read → option_map (λ found. found.0) (result_ok read) ≡ Some ls → Columns bytes ls
-columns-by bytes ls (Ok found) e h = let k : found.0 ≡ ls = cc in record { columns = found.1; found = e ∙ ap (λ z. Ok (z, found.1)) k }
-columns-by bytes ls (Err column) e h = cc
 
 module _ (line : Line) (last : ℕ) (is : IsLine last line) where
   again : IsReadAgain line.command
@@ -167,64 +147,14 @@ module _ (line : Line) (last : ℕ) (is : IsLine last line) where
 
   pub line-reads : length (line_bytes line) ≤ MAX_LINE_LENGTH → script_line_of (line_bytes line) ≡ Ok (record { session = line.session; command = line.command })
   line-reads short =
-      let a = again in
-      let b = session in
-      let found = columns-by (line_bytes line) (line_lexemes line) (lexed (line_bytes line)) refl (lexemes_of-laid_out (line_lexemes line) all-proper) in
-      (lines-read script_line IsScriptLine capped_line line_shape lawful-line lines-fair (line_bytes line) (record { session = line.session; command = line.command })).1 (record {
-        short = short;
-        text = record {
-          lexemes = line_lexemes line;
-          columns = found.columns;
-          lexical = record { utf8 = laid_out-utf8 (line_lexemes line) all-proper all-texts; found = found.found };
-          shallow = command-shallow line.command a.within;
-          derived = g.open_end (line_lexemes line) (record { session = line.session; command = line.command }) (g.in_session (session_name line.session) line.session (command_lexemes line.command) line.command b.session a.derived);
-          within = a.within;
-        };
-      })
+      line-read (line_bytes line) (session_name line.session) line.session line.command again session.session (laid_out-utf8 (line_lexemes line) all-proper all-texts)
+      (lexemes_of-laid_out (line_lexemes line) all-proper) short
 
 begins : (line : Line) → line_bytes line ≡ 115 ∷ (decimal line.session ++ added (next_gap Start (Word (session_name line.session))) (Sign s.Colon ∷ command_lexemes line.command))
 begins line = written-added empty_page (line_lexemes line)
 
 pub line-answered : (line : Line) → is_answered (line_bytes line) ≡ true
 line-answered line = ap is_answered (begins line) ∙ ap not (and_none _)
-
--- ---- lines of a text
-
-abbrev is_feed : ℕ → Bool
-is_feed byte = eqb byte 10
-
--- a control character is in no text that has none
-plain-without : (c : ℕ) (text : List ℕ) → is_ascii_control c ≡ true → list_any is_ascii_control text ≡ false → list_any (λ b. eqb b c) text ≡ false
-plain-without c [] control e = refl
-plain-without c (b ∷ text) control e =
-    let h = or_parts (is_ascii_control b) (list_any is_ascii_control text) e in
-    rw (other (eqb b c) refl h.0) (plain-without c text control h.1)
-  where
-    other : (x : Bool) → eqb b c ≡ x → is_ascii_control b ≡ false → eqb b c ≡ false
-    other false same graphic = same
-    other true same graphic = let f : is_ascii_control b ≡ true = ap is_ascii_control (eqb-true b c same) ∙ control in absurd cc
-
-split-text : (text rest : List ℕ) → list_any is_feed text ≡ false → slice_split is_feed (text ++ (10 ∷ rest)) ≡ text ∷ slice_split is_feed rest
-split-text [] rest e = refl
-split-text (b ∷ text) rest e = let h = or_parts (is_feed b) (list_any is_feed text) e in rw h.0 (ap (onto_first b) (split-text text rest h.1))
-
-parts-more : (part : List ℕ) (parts : List (List ℕ)) → 0 < length parts → lines_of_parts (part ∷ parts) ≡ strip_carriage_return part ∷ lines_of_parts parts
-parts-more part [] some = absurd (omega arith)
-parts-more part (next ∷ parts) some = refl
-
-byte-other : (text : List ℕ) (i : ℕ) → list_any (λ b. eqb b 13) text ≡ false → eqb (get_or text i 0) 13 ≡ false
-byte-other [] i e = refl
-byte-other (b ∷ text) zero e = (or_parts (eqb b 13) (list_any (λ b. eqb b 13) text) e).0
-byte-other (b ∷ text) (suc i) e = byte-other text i (or_parts (eqb b 13) (list_any (λ b. eqb b 13) text) e).1
-
-whole-line : (text : List ℕ) → list_any (λ b. eqb b 13) text ≡ false → strip_carriage_return text ≡ text
-whole-line text e = rw (byte-other text (length text - 1) e) refl
-
-first-line : (text rest : List ℕ) → list_any is_ascii_control text ≡ false → lines (text ++ (10 ∷ rest)) ≡ text ∷ lines rest
-first-line text rest e =
-    ap lines_of_parts (split-text text rest (plain-without 10 text refl e))
-    ∙ parts-more text (slice_split is_feed rest) (let n = length-slice_split is_feed rest in omega (arith, n))
-    ∙ ap (λ (x : List ℕ). x ∷ lines rest) (whole-line text (plain-without 13 text refl e))
 
 -- ---- numbered lines
 

@@ -8,7 +8,7 @@ use Rattle.std.specs.Char.{digit_value, is_ascii_digit}
 use Rattle.gp_grammar.specs.declared.limits.TheConstants.{MAX_SESSION}
 use Rattle.gp_grammar.specs.Syntax.{Bytes, Lexemes, ScriptLine}
 use Rattle.gp_grammar.specs.CommandGrammar as g
-use Rattle.gp_grammar.specs.CommandGrammar.{Closed, IsScriptLine, IsSessionCommand, is_number_without_zero, session_if, session_of}
+use Rattle.gp_grammar.specs.CommandGrammar.{IsScriptLine, IsSessionCommand, is_number_without_zero, session_if, session_of}
 use Rattle.gp_grammar.specs.CommandParsing.{script_line}
 use Rattle.gp_grammar.specs.Capping.{capped_line}
 use Rattle.gp_grammar.specs.Limits.{line_shape}

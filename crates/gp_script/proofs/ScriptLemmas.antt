@@ -15,7 +15,7 @@ use Rattle.gp_machine.specs.Replies.{is_refusal}
 use Rattle.gp_machine.specs.State.{State, start}
 use Rattle.gp_machine.specs.declared.reply.Reply.{Reply}
 use Rattle.gp_machine.specs.declared.reply.Reply.TheVariants as reply
-use Rattle.gp_engine.specs.Engine.{Engine, Follows, IsEngineOf, IsUnchanged, tables_of}
+use Rattle.gp_engine.specs.Engine.{Engine, IsEngineOf, IsUnchanged, tables_of}
 use Rattle.gp_script.specs.Answering.{FollowsLine, FollowsRead}
 use Rattle.gp_script.specs.History.{has_refusal, replies_text}
 use Rattle.gp_script.specs.Scripts.{final_state, line_outcome, replies_from, replies_of, state_after}
@@ -38,14 +38,6 @@ refused-read (Ok line) refusal engine number fault = absurd cc
 refused-read (Err fault) refusal engine number is =
     let same : refusal_of_fault fault ≡ refusal = cc in
     record { reply = λ state represented. ap reply.Refused (sym same); state = λ state represented. represented }
-
--- a line that is read is answered by the engine
-pub answered-read : (old new : Engine) (number : ℕ) (read : Result ScriptLine Fault) (line : ScriptLine) (answer : Reply) → read ≡ Ok line
-    → Follows old new number line.session line.command answer → FollowsRead old new number read answer
-answered-read old new number (Err fault) line answer is follows = absurd cc
-answered-read old new number (Ok other) line answer is follows =
-    let same : other ≡ line = cc in
-    subst (λ (l : ScriptLine). FollowsRead old new number (Ok l) answer) (sym same) (record { reply = follows.reply; state = follows.state })
 
 -- ---- a script
 

@@ -10,11 +10,12 @@ ghost use Rattle.gp_script.specs.Scripts.{final_state, replies_of};
 ghost use Rattle.gp_script.specs.Run.{HasRun};
 
 use crate::display::write_reply;
-use gp_base::NoMemory;
+use gp_base::{NoMemory, Stop};
 use gp_engine::Engine;
 use gp_machine::Reply;
-use gp_syntax::{ReadStop, lines, read_line};
+use gp_syntax::{Command, lines, read_line};
 use std::alloc::Global;
+use std::rc::Rc;
 
 /// The greatest length of a script, in bytes.
 pub const MAX_SCRIPT_LENGTH: usize = 16_777_216;
@@ -28,6 +29,13 @@ pub struct Output {
     pub refused: bool,
 }
 
+/// A command behind a count of its owners: the log keeps it.
+fn shared(alloc: Global, command: Command) -> Result<Rc<Command>, NoMemory>
+    ensures { IfOk result (λ r. r.value ≡ command) }
+{
+    Ok(Rc::new(alloc, command)?)
+}
+
 /// Answers the line of this number.
 fn answer_line(
     alloc: Global,
@@ -39,9 +47,12 @@ fn answer_line(
     ensures err { OnErr result (IsUnchanged engine.old engine.new) }
 {
     match read_line(alloc, bytes) {
-        Ok(read) => engine.line(number, read.session, read.command),
-        Err(ReadStop::Refused(refusal)) => Ok(Reply::Refused(refusal)),
-        Err(ReadStop::NoMemory) => Err(NoMemory),
+        Ok(read) => {
+            let command = shared(alloc, read.command)?;
+            engine.line(number, read.session, command)
+        }
+        Err(Stop::Refused(refusal)) => Ok(Reply::Refused(refusal)),
+        Err(Stop::NoMemory) => Err(NoMemory),
     }
 }
 

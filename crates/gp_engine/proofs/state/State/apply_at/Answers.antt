@@ -1,5 +1,4 @@
-use Rattle.std.proofs.Common.{◌≡◌, None, suc, get_or, ap, sym, ◌∙◌, subst}
-use Rattle.gp_algebra.specs.Views.{statement_view}
+use Rattle.std.proofs.Common.{◌≡◌, suc, get_or, ap, sym, ◌∙◌, subst}
 use Rattle.gp_txn.specs.Transactions.{AreOthers, table_at}
 use Rattle.gp_engine.specs.Engine.{Engine}
 use Rattle.gp_engine.proofs.InvariantLemmas.{within-sessions}

@@ -5,5 +5,5 @@ use Rattle.gp_engine.proofs.state.State.line.Goals as goal
 
 pub returns-then-runs-clause-ok : goal.returns-then-runs-clause-ok
 returns-then-runs-clause-ok c = ok-map _ _ c.statement.result (λ answer runs.
-    runs-does c.args.self.now c.statement.new.self answer c.args.line c.args.place (command_view c.args.command) (c.runs.ensures.there c.if-runs.true) (c.runs.ensures.statement c.if-runs.true) runs)
+    runs-does c.args.self.now c.statement.new.self answer c.args.line c.args.place (command_view c.args.command.value) (c.runs.ensures.there c.if-runs.true) (rw c.as_ref.ensures at (c.runs.ensures.statement c.if-runs.true)) runs)
     c.statement.ensures.ok

@@ -7,5 +7,5 @@ use Rattle.gp_engine.proofs.state.State.statement.Goals as goal
 
 pub run-requires-clause-count : goal.run-requires-clause-count
 run-requires-clause-count c running at =
-    few-steps running.statements (statements_of c.args.self.now) (checked (tables_of c.args.self.now) (command_view c.args.command)) (statement_view c.in-Ok.stmt)
-    (c.in-Ok.ensures.checked running at)
+    few-steps running.statements (statements_of c.args.self.now) (checked (tables_of c.args.self.now) (command_view c.args.command.value)) (statement_view c.in-Ok.stmt)
+    ((rw c.as_ref.ensures at c.in-Ok.ensures.checked) running at)
