@@ -1,5 +1,5 @@
 -- Whatever programs answer explained questions, a dump answers as the history held it where it does with those that are printed.
-use Rattle.std.proofs.Common.{◌≡◌, List, ap, ◌∙◌}
+use Rattle.std.proofs.Common.{◌≡◌, List, None, false, ap, ◌∙◌}
 use Rattle.gp_base.specs.Tokens.{Monomial}
 use Rattle.gp_grammar.specs.Syntax as y
 use Rattle.gp_algebra.specs.Statements.{Select}
@@ -11,38 +11,51 @@ use Rattle.gp_machine.specs.State.{State}
 use Rattle.gp_dump.specs.Dumps.{Dump}
 use Rattle.gp_ask.specs.declared.answered.Answered.TheVariants.{Program}
 use Rattle.gp_ask.specs.Answers as answers
-use Rattle.gp_ask.specs.Asking as asking
 use Rattle.gp_ask.specs.Asking.{Programs, query_answer}
-use Rattle.gp_ask.specs.Differences.{causes_answer}
+use Rattle.gp_ask.specs.Differences.{causes_answer, diff_answer}
 use Rattle.gp_ask.specs.Hypothetical as hypothetical
+use Rattle.gp_ask.specs.Intervals.{when_answer}
+use Rattle.gp_ask.specs.Made.{unmade_refusal}
 use Rattle.gp_ask.specs.Printed.{answer_to, held_to}
+use Rattle.gp_ask.specs.Seeing.{seen_refusal}
+use Rattle.gp_ask.specs.Subjects as subjects
 use Rattle.gp_ask.proofs.DifferenceLemmas.{causes-same, diff-same}
+use Rattle.gp_ask.proofs.IntervalLemmas.{when-same}
 
 module _ (programs : Programs) (dump : Dump) (state : State Monomial) (log : dump.entries ≡ state.entries) (catalogue : tables_in state.entries ≡ state.catalogue)
-    (same : (question : y.Question) → answer_to dump question ≡ held_to state question) where
-  asked-any : (how : y.How) (point : y.Point) (query : y.Query) → asking.ask_to programs dump how point query ≡ asking.ask_held programs state how point query
-  asked-any y.rows point query = same (y.ask y.rows point query)
-  asked-any y.provenance point query = same (y.ask y.provenance point query)
-  asked-any (y.explain prov) point query =
+    (made : unmade_refusal dump ≡ None) (same : (question : y.Question) → answer_to dump question ≡ held_to state question) where
+  asked-any : (subject : y.Subject) (query : y.Query) → subjects.query_to programs dump subject query ≡ subjects.query_held programs state subject query
+  asked-any (y.of_state y.rows point) query = same (y.ask (y.of_state y.rows point) query)
+  asked-any (y.of_state y.provenance point) query = same (y.ask (y.of_state y.provenance point) query)
+  asked-any (y.of_state (y.explain prov) point) query =
       λ i. query_answer (λ (select : Select). Program (programs (log i) prov point select)) (log_refusal (log i) point) (checked_query ((ap tables_in log ∙ catalogue) i) query)
-  asked-any (y.value name rules other) point query = same (y.ask (y.value name rules other) point query)
-  asked-any (y.without patterns) point query = same (y.ask (y.without patterns) point query)
+  asked-any (y.of_state (y.value name rules other) point) query = same (y.ask (y.of_state (y.value name rules other) point) query)
+  asked-any (y.of_state (y.without patterns) point) query = same (y.ask (y.of_state (y.without patterns) point) query)
+  asked-any (y.saw t k) query = same (y.ask (y.saw t k) query)
 
-  changed-any : (change : y.LogChange) (how : y.How) (point : y.Point) (query : y.Query)
-      → hypothetical.what_if_held programs dump.entries change how point query ≡ hypothetical.what_if_held programs state.entries change how point query
-  changed-any change how point query = ap (λ (entries : List Entry). hypothetical.what_if_held programs entries change how point query) log
+  changed-any : (changes : List y.LogChange) (subject : y.Subject) (query : y.Query)
+      → hypothetical.what_if_held programs dump.entries changes subject query ≡ hypothetical.what_if_held programs state.entries changes subject query
+  changed-any changes subject query = ap (λ (entries : List Entry). hypothetical.what_if_held programs entries changes subject query) log
 
   pub any-held : (question : y.Question) → answers.answer_to programs dump question ≡ answers.held_to programs state question
   any-held (y.log t) = same (y.log t)
   any-held (y.versions name) = same (y.versions name)
   any-held y.transactions = same y.transactions
-  any-held (y.saw t k query) = same (y.saw t k query)
   any-held (y.changes t k) = same (y.changes t k)
   any-held (y.commit_changes t) = same (y.commit_changes t)
+  any-held (y.conflicts t) = same (y.conflicts t)
+  any-held (y.history name cond) = same (y.history name cond)
+  any-held (y.when query) =
+      when-same _ _ asked-any dump.entries query ∙ ap (λ (entries : List Entry). when_answer (subjects.query_held programs state) entries query) log
+  any-held y.serial = same y.serial
   any-held y.check = same y.check
-  any-held (y.diff first second query) = diff-same _ _ _ _ asked-any changed-any first second query
-  any-held (y.causes kept query) =
-      causes-same _ _ _ _ asked-any changed-any dump.entries kept query
-      ∙ ap (λ (entries : List Entry). causes_answer (asking.ask_held programs state) (hypothetical.what_if_held programs state.entries) entries kept query) log
-  any-held (y.ask how point query) = asked-any how point query
-  any-held (y.what_if change how point query) = changed-any change how point query
+  any-held (y.diff first second query) =
+      diff-same _ _ _ _ asked-any changed-any _ _ made dump.entries first second query
+      ∙ ap (λ (entries : List Entry). diff_answer (subjects.query_held programs state) (hypothetical.what_if_held programs state.entries) None entries first second query) log
+  any-held (y.causes subject query) =
+      causes-same _ _ _ _ asked-any changed-any _ _ made dump.entries subject query
+      ∙ ap (λ (entries : List Entry). causes_answer (subjects.query_held programs state) (hypothetical.what_if_held programs state.entries) None entries subject query) log
+  any-held (y.ask subject query) = asked-any subject query
+  any-held (y.what_if changes subject query) = changed-any changes subject query
+  any-held (y.explain_saw t k query) =
+      λ i. query_answer (λ (select : Select). Program (programs (log i) false (y.after t k) select)) (seen_refusal t k (log i)) (checked_query ((ap tables_in log ∙ catalogue) i) query)

@@ -24,7 +24,7 @@ use Rattle.gp_reenact.specs.Travel as travels
 use Rattle.gp_versions.specs.declared.span.Span.{Span}
 use Rattle.gp_versions.specs.Spans.{Versions}
 use Rattle.gp_reenact.specs.Backends.{IsGivenOver, RefusedBy}
-use Rattle.gp_reenact.specs.declared.error.ReenactStop.TheVariants as stop
+use Rattle.gp_base.specs.declared.stop.Stop.TheVariants as stop
 use Rattle.gp_reenact.specs.Reenacting.{RunsOver, spans_of, stopped, transaction_at}
 use Rattle.gp_reenact.specs.Programs.{merged_at}
 use Rattle.gp_reenact.proofs.BackendLemmas.{runs_over_same}

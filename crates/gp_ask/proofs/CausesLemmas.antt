@@ -7,7 +7,7 @@ use Rattle.std.proofs.lemmas.Bool.{eqb-false, eqb-true}
 use Rattle.std.proofs.lemmas.List.{append-nil, map-append, take_all}
 use Rattle.std.proofs.lemmas.Option.{same_Some, slice_get_within}
 use Rattle.gp_compose.specs.Seen.{writes}
-use Rattle.gp_compose.proofs.EntryLemmas.{log-more}
+use Rattle.gp_log.proofs.FindingLemmas.{log-more}
 use Rattle.gp_log.specs.Kinds.{HasNextNumber, IsNumbered}
 use Rattle.gp_log.specs.Logs.{log_view, what_view}
 use Rattle.gp_log.specs.declared.entry.Entry as code
@@ -108,9 +108,6 @@ abbrev Line : Type 0
 Line = Option (List ℕ)
 
 module _ (asked : Asked) (found : List Write) (versions limit : ℕ) where
-  pub first-put : (lines : List Line) → ArePut asked found versions lines → ArePutUpto asked found versions limit 0 lines
-  first-put lines put = record { before = put; more = λ place own is below. absurd (omega (arith, below)) }
-
   module _ (upto : ℕ) (lines : List Line) (so : ArePutUpto asked found versions limit upto lines) (own : Write) (is : slice_get found upto ≡ Some own) where
     own-at : (place : ℕ) (other : Write) → slice_get found place ≡ Some other → place ≡ upto → own ≡ other
     own-at place other there same = same_Some own other (sym is ∙ ap (slice_get found) (sym same) ∙ there)
@@ -160,10 +157,6 @@ module _ (asked : Asked) (found : List Write) (versions limit : ℕ) where
     places = so.before.places;
     put = λ place own is within. so.more place own is (omega (arith, slice_get_within found place own is, all)) within;
   }
-
--- so are those of fewer versions
-pub fewer-put : (asked : Asked) (found : List Write) (few many : ℕ) (lines : List Line) → few ≤ many → ArePut asked found many lines → ArePut asked found few lines
-fewer-put asked found few many lines less put = record { places = put.places; put = λ place own is within. put.put place own is (omega (arith, less, within)) }
 
 -- no statement is of version 0
 pub none-put : (asked : Asked) (entries : List Entry) (found : List Write) (lines : List Line) → AreWrites entries found → length lines ≡ length found → ArePut asked found 0 lines

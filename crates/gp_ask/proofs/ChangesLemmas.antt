@@ -1,6 +1,6 @@
 -- The lines of what a statement changed: rows that are sorted by their identities and then by their places are in the order of their identities, and of the
 -- table where they have one identity.
-use Rattle.std.proofs.Common.{◌≡◌, ℕ, zero, suc, ◌+◌, ◌-◌, ◌<◌, ◌≤◌, pos, ◌<ℤ◌, Bool, true, false, cond, List, [], ◌∷◌, ◌++◌, drop, get_or, length, map, take, Option, Some, None, Result, Ok, Err, refl, sym, ap, ◌∙◌, subst, arith}
+use Rattle.std.proofs.Common.{◌≡◌, ℕ, suc, ◌+◌, ◌-◌, ◌<◌, ◌≤◌, pos, ◌<ℤ◌, Bool, true, false, cond, List, [], ◌∷◌, ◌++◌, drop, get_or, length, map, take, Option, Some, None, Result, Ok, Err, refl, sym, ap, ◌∙◌, subst, arith}
 use Rattle.std.specs.List.{filter, flat_map, slice_get}
 use Rattle.std.specs.Ordering.{MatchOrdering, int_cmp, is_le, ordering_then}
 use Rattle.std.specs.declared.cmp.Ordering.{Ordering}
@@ -10,7 +10,7 @@ use Rattle.std.specs.Option.{is_none}
 use Rattle.std.proofs.lemmas.Bool.{and_parts, leb-true, ltb-true}
 use Rattle.std.proofs.lemmas.Cmp.{int_ranked}
 use Rattle.std.proofs.lemmas.Int.{ints}
-use Rattle.std.proofs.lemmas.List.{at_drop_more, drop_more, length-append}
+use Rattle.std.proofs.lemmas.List.{drop_more, length-append}
 use Rattle.std.proofs.lemmas.Option.{get_or_from_slice_get, none-some, same_Some, slice_get_within}
 use Rattle.gp_base.proofs.SmallLemmas.{all_weaker, none_parts, some_none}
 use Rattle.gp_base.specs.declared.refusal.Refusal.{Refusal}
@@ -36,7 +36,7 @@ use Rattle.gp_machine.specs.Questions.{given, is_known, statement_refusal, trans
 use Rattle.gp_machine.specs.Runs.{run_before}
 use Rattle.gp_reenact.specs.Looking.{looked_refusal}
 use Rattle.gp_reenact.specs.LookingForms.{Looks, looked_answer, looked_rows, system_row}
-use Rattle.gp_reenact.specs.declared.error.ReenactStop.TheVariants as stop
+use Rattle.gp_base.specs.declared.stop.Stop.TheVariants as stop
 use Rattle.gp_versions.specs.declared.span.Span.{Span}
 use Rattle.gp_versions.specs.Spans.{Versions}
 use Rattle.gp_dump.specs.Views.{tables_view}
@@ -60,12 +60,12 @@ taken (c ∷ cells) ys = ap (λ (own : List Cell). c ∷ own) (taken cells ys)
 before_both : (cells : List Cell) (x z : Cell) → length (cells ++ x ∷ z ∷ []) - 2 ≡ length cells
 before_both cells x z = omega (arith, length-append cells (x ∷ z ∷ []))
 
-identity_found : (row : Annotated (Unit {0})) → identity_of (system_row row) ≡ Some row.identity
+pub identity_found : (row : Annotated (Unit {0})) → identity_of (system_row row) ≡ Some row.identity
 identity_found row =
     ap (λ n. as_identity (slice_get (system_row row) n)) (before_both row.cells (cell.Id row.identity) (cell.Mark row.mark))
     ∙ ap as_identity (at_end row.cells (cell.Id row.identity) (cell.Mark row.mark ∷ []))
 
-cells_found : (row : Annotated (Unit {0})) → cells_of (system_row row) ≡ row.cells
+pub cells_found : (row : Annotated (Unit {0})) → cells_of (system_row row) ≡ row.cells
 cells_found row =
     ap (λ n. take n (system_row row)) (before_both row.cells (cell.Id row.identity) (cell.Mark row.mark))
     ∙ taken row.cells (cell.Id row.identity ∷ cell.Mark row.mark ∷ [])
@@ -203,20 +203,6 @@ sets-simple tables (delete table c) fit = refl
 sets-simple tables (read select) fit = refl
 
 -- ---- the spans of a table, and the tables
-
-next-is : (spans : List Span) (n : ℕ) → slice_get (drop n spans) 0 ≡ slice_get spans n
-next-is [] zero = refl
-next-is [] (suc n) = refl
-next-is (span ∷ spans) zero = refl
-next-is (span ∷ spans) (suc n) = next-is spans n
-
--- the lines of the spans behind the first ones, this many
-pub spans-more : (name : List ℕ) (version : ℕ) (last : Option Span) (spans : List Span) (i : ℕ) (span : Span) → i < length spans → span ≡ get_or spans i span
-    → spans_texts name version last (drop i spans) ≡ span_texts name version last span (slice_get spans (i + 1)) ++ spans_texts name version (Some span) (drop (i + 1) spans)
-spans-more name version last spans i span within is =
-    at_drop_more (spans_texts name version last) spans i span within
-    ∙ ap (λ (own : Span). span_texts name version last own (slice_get (drop (i + 1) spans) 0) ++ spans_texts name version (Some own) (drop (i + 1) spans)) (sym is)
-    ∙ ap (λ (next : Option Span). span_texts name version last span next ++ spans_texts name version (Some span) (drop (i + 1) spans)) (next-is spans (i + 1))
 
 -- those of the tables behind the first ones, this many
 pub tables-more : (version : ℕ) (tables : List Table) (versions : List Versions) (place : ℕ) (table : Table) (own : Versions) → slice_get tables place ≡ Some table

@@ -44,7 +44,7 @@ turned : (id other : Identity) (b : Bool) → same_identity other id ≡ b → s
 turned id other false is differ = refl
 turned id other true is differ = absurd (false≢true (sym differ ∙ same-sym other id is))
 
-different-spans : (spans : List Span) → AreOfDifferentRows spans → HaveDifferentIdentities (map (row_of unannotated) spans)
+pub different-spans : (spans : List Span) → AreOfDifferentRows spans → HaveDifferentIdentities (map (row_of unannotated) spans)
 different-spans [] different = tt
 different-spans (span ∷ spans) different = (
   none_any (λ other. same_row other (row_of unannotated span)) (map (row_of unannotated) spans)
@@ -59,7 +59,7 @@ module _ {M : Type 0} where
   each-unmapped row [] all = tt
   each-unmapped row (other ∷ rows) all = (all.0, each-unmapped row rows all.1)
 
-  different-unmapped : (rows : List (Annotated M)) → HaveDifferentIdentities (map (reannotated forgotten) rows) → HaveDifferentIdentities rows
+  pub different-unmapped : (rows : List (Annotated M)) → HaveDifferentIdentities (map (reannotated forgotten) rows) → HaveDifferentIdentities rows
   different-unmapped [] different = tt
   different-unmapped (row ∷ rows) different = (
     none_any (λ other. same_row other row) rows

@@ -15,8 +15,8 @@ use Rattle.gp_log.specs.LogFacts.{tables_in}
 use Rattle.gp_machine.specs.Annotating.{annotated_versions}
 use Rattle.gp_machine.specs.Entries.{Entry}
 use Rattle.gp_machine.specs.Points.{at_point}
-use Rattle.gp_reenact.specs.declared.error.ReenactStop.{ReenactStop}
-use Rattle.gp_reenact.specs.declared.error.ReenactStop.TheVariants as stop
+use Rattle.gp_base.specs.declared.stop.Stop.{Stop}
+use Rattle.gp_base.specs.declared.stop.Stop.TheVariants as stop
 use Rattle.gp_semiring.specs.Sums.{plus_up_to, times_up_to}
 use Rattle.gp_semiring.specs.declared.rules.Rule.{Rule}
 use Rattle.gp_history.specs.ValueAnswers.{history_refusal}
@@ -56,7 +56,7 @@ module _ (dump : Dump) (patterns : List y.Rule) (own : List Rule × Option ℕ) 
   abbrev found : Result (List (List Cell × ℕ)) Refusal
   found = found_in count own entries (tables_in entries) spans point select
 
-  over_counts : {X : Type 0} (view : X → List (List Cell × ℕ)) (result : Result X ReenactStop) → Gives view result found → Gives view result (expected matches select db counts refusal)
+  over_counts : {X : Type 0} (view : X → List (List Cell × ℕ)) (result : Result X Stop) → Gives view result found → Gives view result (expected matches select db counts refusal)
   over_counts view result gives =
       subst (λ (value : Token → ℕ). Gives view result (value_answer parameters (plus_up_to greatest_count) 0 1 (times_up_to greatest_count) value agree (tables_in entries) entries spans point select)) (by_patterns patterns)
       (subst (λ (rules : List Rule × Option ℕ). Gives view result (found_in count rules entries (tables_in entries) spans point select)) by gives)

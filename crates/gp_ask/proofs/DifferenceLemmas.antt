@@ -1,23 +1,31 @@
 -- Answers to DIFF and to CAUSES are the same where those of the questions are that they stand for.
-use Rattle.std.proofs.Common.{◌≡◌, List}
+use Rattle.std.proofs.Common.{◌≡◌, List, [], ◌∷◌, Option}
+use Rattle.std.specs.Option.{option_or}
+use Rattle.gp_base.specs.declared.refusal.Refusal.{Refusal}
 use Rattle.gp_grammar.specs.Syntax as y
 use Rattle.gp_machine.specs.Entries.{Entry}
 use Rattle.gp_ask.specs.declared.answered.Answered.{Answered}
 use Rattle.gp_ask.specs.DifferenceForms.{causes_of, committed_writes, diff_of, without_in}
-use Rattle.gp_ask.specs.Differences.{causes_answer, diff_answer, rows_in, side_answer}
+use Rattle.gp_ask.specs.Differences.{causes_answer, diff_answer, mixed_refusal, rows_in, side_answer}
+use Rattle.gp_ask.specs.Hypothetical.{asking_refusal}
+use Rattle.gp_ask.specs.Values.{unless_refused}
 
-module _ (asks others : y.How → y.Point → y.Query → Answered) (changes others_changed : y.LogChange → y.How → y.Point → y.Query → Answered)
-    (same : (how : y.How) (point : y.Point) (query : y.Query) → asks how point query ≡ others how point query)
-    (same_changed : (change : y.LogChange) (how : y.How) (point : y.Point) (query : y.Query) → changes change how point query ≡ others_changed change how point query) where
+module _ (asks others : y.Subject → y.Query → Answered) (changes others_changed : List y.LogChange → y.Subject → y.Query → Answered)
+    (same : (subject : y.Subject) (query : y.Query) → asks subject query ≡ others subject query)
+    (same_changed : (own : List y.LogChange) (subject : y.Subject) (query : y.Query) → changes own subject query ≡ others_changed own subject query)
+    (unmade other_unmade : Option Refusal) (same_unmade : unmade ≡ other_unmade) (entries : List Entry) where
   side-same : (side : y.Side) (query : y.Query) → side_answer asks changes side query ≡ side_answer others others_changed side query
-  side-same (y.as_is kept) query = same kept.how kept.state query
-  side-same (y.changed change kept) query = same_changed change kept.how kept.state query
+  side-same (y.as_is subject) query = same subject query
+  side-same (y.changed own subject) query = same_changed own subject query
 
-  pub diff-same : (first second : y.Side) (query : y.Query) → diff_answer asks changes first second query ≡ diff_answer others others_changed first second query
-  diff-same first second query = λ i. diff_of (rows_in (side-same first query i)) (rows_in (side-same second query i))
+  pub diff-same : (first second : y.Side) (query : y.Query)
+      → diff_answer asks changes unmade entries first second query ≡ diff_answer others others_changed other_unmade entries first second query
+  diff-same first second query =
+      λ i. unless_refused (mixed_refusal (same_unmade i) entries first second query) (diff_of (rows_in (side-same first query i)) (rows_in (side-same second query i)))
 
-  without-same : (kept : y.Kept) (query : y.Query) → without_in changes kept query ≡ without_in others_changed kept query
-  without-same kept query = λ i own. same_changed (y.drop own.0 own.1) kept.how kept.state query i
+  without-same : (subject : y.Subject) (query : y.Query) → without_in changes subject query ≡ without_in others_changed subject query
+  without-same subject query = λ i own. same_changed (y.drop own.0 own.1 ∷ []) subject query i
 
-  pub causes-same : (entries : List Entry) (kept : y.Kept) (query : y.Query) → causes_answer asks changes entries kept query ≡ causes_answer others others_changed entries kept query
-  causes-same entries kept query = λ i. causes_of (without-same kept query i) (committed_writes entries) (rows_in (same kept.how kept.state query i))
+  pub causes-same : (subject : y.Subject) (query : y.Query) → causes_answer asks changes unmade entries subject query ≡ causes_answer others others_changed other_unmade entries subject query
+  causes-same subject query =
+      λ i. unless_refused (option_or (asking_refusal entries subject query) (same_unmade i)) (causes_of (without-same subject query i) (committed_writes entries) (rows_in (same subject query i)))

@@ -1,18 +1,19 @@
 -- Every program that questions to a well-formed dump ask for explains its query: that is a fact of the dump and of the questions.
-use Rattle.std.proofs.Common.{◌≡◌, ◌≤◌, ◌<◌, ℕ, zero, suc, Bool, true, false, cond, not, List, [], ◌∷◌, length, map, Option, Some, None, Result, Ok, Err, refl, sym, ap, subst, arith}
-use Rattle.std.specs.Prelude.{IfOk, nat_lt}
+use Rattle.std.proofs.Common.{◌≡◌, ◌≤◌, ◌<◌, ◌+◌, ℕ, zero, suc, Bool, true, false, cond, not, List, [], ◌∷◌, length, map, Option, Some, None, Result, Ok, Err, refl, sym, ap, subst, arith}
+use Rattle.std.specs.Prelude.{◌==◌, IfOk, nat_lt}
 use Rattle.std.specs.List.{AllByRecursion}
 use Rattle.std.specs.Option.{option_or}
-use Rattle.std.proofs.lemmas.Bool.{and_from, ltb-false, ltb-true}
+use Rattle.std.proofs.lemmas.Bool.{and_from, and_parts, ltb-false, ltb-true}
+use Rattle.std.proofs.lemmas.List.{length-map}
 use Rattle.gp_base.specs.declared.refusal.Refusal.{Refusal}
 use Rattle.gp_base.specs.declared.table.Table.{Table}
 use Rattle.gp_base.specs.Names.{is_name}
-use Rattle.gp_base.proofs.SmallLemmas.{each_append}
-use Rattle.gp_grammar.specs.declared.limits.TheConstants.{MAX_COLUMNS}
+use Rattle.gp_base.proofs.SmallLemmas.{each_append, some_none}
+use Rattle.gp_grammar.specs.declared.limits.TheConstants.{MAX_CHANGES, MAX_COLUMNS}
 use Rattle.gp_grammar.specs.Canonical.{command_text}
 use Rattle.gp_grammar.specs.Capping.{capped_question}
-use Rattle.gp_grammar.specs.Laws.{has_statement}
-use Rattle.gp_grammar.specs.Limits.{change_shape, command_shape, passed_limit, query_shape, question_shape}
+use Rattle.gp_grammar.specs.Laws.{have_statements}
+use Rattle.gp_grammar.specs.Limits.{change_count, change_shape, changes_shape, command_shape, commands_shape, passed_limit, query_shape, question_shape, shape_of_count}
 use Rattle.gp_grammar.specs.LineReading.{Fault}
 use Rattle.gp_grammar.specs.QuestionGrammar.{IsQuestion}
 use Rattle.gp_grammar.specs.QuestionParsing.{question}
@@ -28,7 +29,7 @@ use Rattle.gp_algebra.specs.Statements.{Select, Statement, insert, insert_select
 use Rattle.gp_check.specs.Checking.{checked, checked_query}
 use Rattle.gp_check.specs.Faults.{first_refusal}
 use Rattle.gp_check.specs.Meaning.{select_of, meant_statement}
-use Rattle.gp_check.specs.Valid.{change_is_valid, query_is_valid, table_is_valid, tables_are_valid}
+use Rattle.gp_check.specs.Valid.{changes_are_valid, query_is_valid, table_is_valid, tables_are_valid}
 use Rattle.gp_check.proofs.FittingLemmas.{accepted, fits}
 use Rattle.gp_check.proofs.ValidLemmas.{command-derived}
 use Rattle.gp_machine.specs.Entries.{Entry, Created, Began, Ran, Committed, Ended, line_of, session_of}
@@ -40,14 +41,14 @@ use Rattle.gp_log.specs.LogFitting.{statements_fit}
 use Rattle.gp_log.specs.Parameters.{parameters}
 use Rattle.gp_log.specs.Sessions.{KeepsSessions}
 use Rattle.gp_log.proofs.CheckedEntries.{was_checked}
-use Rattle.gp_whatif.specs.Changed.{changed_log, doubled, dropped_command, dropped_statement, is_at, is_step_of, rewritten, steps_refusal, tables_at_end, tables_before, with_added, with_other}
+use Rattle.gp_whatif.specs.Changed.{all_changed, changed, changed_log, dropped_command, dropped_of, dropped_statement, is_at, is_step_of, lines_for, rewritten, spread, steps_refusal, tables_at_end, tables_before, with_added, with_other}
 use Rattle.gp_whatif.specs.ChangedForms.{ChecksFit}
 use Rattle.gp_whatif.specs.Replays.{IsReplayable}
 use Rattle.gp_plantext.specs.Spellable.{table_is_spellable}
 use Rattle.gp_explain.specs.Explained.{Explains}
 use Rattle.gp_explain.specs.Shapes.{AreNamed}
-use Rattle.gp_explain.specs.SmallLogs.{EntryIsSmall, IsSmall, StatementIsSmall}
-use Rattle.gp_explain.proofs.ComposedRanges.{small_explained}
+use Rattle.gp_explain.specs.SmallLogs.{EntryIsSmall, HasFewTables, IsSmall, StatementIsSmall}
+use Rattle.gp_explain.proofs.ComposedRanges.{small_explained, small_saw_explained}
 use Rattle.gp_explain.proofs.LineLemmas.{spelled_lines}
 use Rattle.gp_dumpline.proofs.SaidLaws.{is-said, said-name}
 use Rattle.gp_dump.specs.Dumps.{Dump}
@@ -60,6 +61,7 @@ use Rattle.gp_ask.specs.Asking.{asked}
 use Rattle.gp_ask.specs.Explained.{ExplainsAsk, ExplainsLines, ExplainsQuestion, LinesExplain}
 use Rattle.gp_ask.specs.Programs.{explained_text, program_lines}
 use Rattle.gp_ask.specs.Questions.{AreQuestions, ReadQuestion}
+use Rattle.gp_ask.specs.Seeing.{seen_refusal}
 use Rattle.gp_ask.proofs.FewLemmas.{checked-few, meant-few}
 use Rattle.gp_ask.proofs.ReadAnswers.{one-file}
 use Rattle.gp_ask.proofs.ReadLemmas.{read-valid, valid-change, valid-parts, within-from}
@@ -147,17 +149,13 @@ log_small (Ended line session end t ∷ older) log are = (tt, log_small older lo
 
 -- ---- those of a changed one
 
-doubled_small : (entries : List Entry) → AreSmall entries → AreSmall (map doubled entries)
-doubled_small [] small = tt
-doubled_small (Created line session table ∷ older) small = (tt, doubled_small older small.1)
-doubled_small (Began line session t level ∷ older) small = (tt, doubled_small older small.1)
-doubled_small (Ran line session command t statement ∷ older) small = (small.0, doubled_small older small.1)
-doubled_small (Committed line session t ∷ older) small = (tt, doubled_small older small.1)
-doubled_small (Ended line session end t ∷ older) small = (tt, doubled_small older small.1)
-
-doubled_long : (entries : List Entry) → length (map doubled entries) ≡ length entries
-doubled_long [] = refl
-doubled_long (entry ∷ older) = ap (λ n. suc n) (doubled_long older)
+spread_small : (times : ℕ) (entries : List Entry) → AreSmall entries → AreSmall (map (spread times) entries)
+spread_small times [] small = tt
+spread_small times (Created line session table ∷ older) small = (tt, spread_small times older small.1)
+spread_small times (Began line session t level ∷ older) small = (tt, spread_small times older small.1)
+spread_small times (Ran line session command t statement ∷ older) small = (small.0, spread_small times older small.1)
+spread_small times (Committed line session t ∷ older) small = (tt, spread_small times older small.1)
+spread_small times (Ended line session end t ∷ older) small = (tt, spread_small times older small.1)
 
 module _ (t k : ℕ) (command : y.Command → y.Command) (statement : Statement → Statement) (stays : (own : Statement) → StatementIsSmall own → StatementIsSmall (statement own)) where
   other_small : (entries : List Entry) → AreSmall entries → AreSmall (with_other t k command statement entries)
@@ -206,6 +204,20 @@ dropped_small (update table sets c) small = tt
 dropped_small (delete table c) small = tt
 dropped_small (read select) small = tt
 
+all_dropped_small : (t : ℕ) (entries : List Entry) → AreSmall entries → AreSmall (map (dropped_of t) entries)
+all_dropped_small t [] small = tt
+all_dropped_small t (Created line session table ∷ older) small = (tt, all_dropped_small t older small.1)
+all_dropped_small t (Began line session u level ∷ older) small = (tt, all_dropped_small t older small.1)
+all_dropped_small t (Ran line session command u statement ∷ older) small = (
+  elim (u == t) as (λ b. EntryIsSmall (cond b (Ran line session (dropped_command command) u (dropped_statement statement)) (Ran line session command u statement))) [
+    | true ↦ dropped_small statement small.0
+    | false ↦ small.0
+  ],
+  all_dropped_small t older small.1,
+)
+all_dropped_small t (Committed line session u ∷ older) small = (tt, all_dropped_small t older small.1)
+all_dropped_small t (Ended line session end u ∷ older) small = (tt, all_dropped_small t older small.1)
+
 abbrev AreSame : Result (List Entry) Refusal → Result (List Entry) Refusal → Type 0
 AreSame one other = one ≡ other
 
@@ -225,30 +237,65 @@ IsLike entries new = (length new ≤ suc (length entries)) × AreSmall new
 
 module _ (entries new : List Entry) (small : AreSmall entries) where
   with_other_like : (t k : ℕ) (command : y.Command → y.Command) (statement : Statement → Statement) → ((own : Statement) → StatementIsSmall own → StatementIsSmall (statement own))
-      → IsLike entries (with_other t k command statement (map doubled entries))
+      → IsLike entries (with_other t k command statement entries)
   with_other_like t k command statement stays =
-      let long = other_long t k command statement (map doubled entries) in
-      let twice = doubled_long entries in
-      (omega (arith, long, twice), other_small t k command statement stays (map doubled entries) (doubled_small entries small))
+      let long = other_long t k command statement entries in (omega (arith, long), other_small t k command statement stays entries small)
 
-  changed_like : (change : y.LogChange) → passed_limit (change_shape change) ≡ None → changed_log parameters entries change ≡ Ok new → IsLike entries new
+  changed_like : (change : y.LogChange) → passed_limit (change_shape change) ≡ None → changed parameters entries change ≡ Ok new → IsLike entries new
   changed_like (y.drop t k) within e =
       put entries new (IsLike entries) (option_or (transaction_refusal t entries) (statement_refusal t k entries)) (Ok (tt {0}))
-      (λ nothing. with_other t k dropped_command dropped_statement (map doubled entries)) e
+      (λ nothing. with_other t k dropped_command dropped_statement entries) e
       (λ nothing is. with_other_like t k dropped_command dropped_statement dropped_small)
+  changed_like (y.drop_all t) within e =
+      put entries new (IsLike entries) (transaction_refusal t entries) (Ok (tt {0})) (λ nothing. map (dropped_of t) entries) e
+      (λ nothing is. let long = length-map entries (dropped_of t) in (omega (arith, long), all_dropped_small t entries small))
   changed_like (y.replace t k command) within e =
       put entries new (IsLike entries) (option_or (transaction_refusal t entries) (statement_refusal t k entries)) (checked (tables_before t k entries) command)
-      (λ statement. with_other t k (λ own. command) (λ own. statement) (map doubled entries)) e
+      (λ statement. with_other t k (λ own. command) (λ own. statement) entries) e
       (λ statement is. with_other_like t k (λ own. command) (λ own. statement) (λ own given. checked_small (tables_before t k entries) command statement within is))
   changed_like (y.add t command) within e =
       put entries new (IsLike entries) (option_or (transaction_refusal t entries) (steps_refusal parameters entries t)) (checked (tables_at_end t entries) command)
-      (λ statement. with_added t command statement (map doubled entries)) e
+      (λ statement. with_added t command statement entries) e
       (λ statement is.
-      let long = added_long t command statement (map doubled entries) in
-      let twice = doubled_long entries in (
-        omega (arith, long, twice),
-        added_small t command statement (checked_small (tables_at_end t entries) command statement within is) (map doubled entries) (doubled_small entries small),
-      ))
+      let long = added_long t command statement entries in
+      (omega (arith, long), added_small t command statement (checked_small (tables_at_end t entries) command statement within is) entries small))
+
+-- one change after another: a log is small, and at most so many lines longer than another
+abbrev IsLonger : ℕ → List Entry → List Entry → Type 0
+IsLonger more entries new = (length new ≤ length entries + more) × AreSmall new
+
+step_like : (entries new : List Entry) (small : AreSmall entries) (change : y.LogChange) (changes : List y.LogChange) → passed_limit (change_shape change) ≡ None
+    → ((own : List Entry) → AreSmall own → all_changed parameters (Ok own) changes ≡ Ok new → IsLonger (length changes) own new)
+    → (found : Result (List Entry) Refusal) → changed parameters entries change ≡ found → all_changed parameters found changes ≡ Ok new → IsLonger (suc (length changes)) entries new
+step_like entries new small change changes within others (Err refusal) is e = absurd cc
+step_like entries new small change changes within others (Ok own) is e =
+    let like = changed_like entries own small change within is in
+    let rest = others own like.1 e in
+    let long = rest.0 in let one = like.0 in (omega (arith, long, one), rest.1)
+
+all_like : (changes : List y.LogChange) (entries new : List Entry) → AreSmall entries → passed_limit (commands_shape changes) ≡ None → all_changed parameters (Ok entries) changes ≡ Ok new
+    → IsLonger (length changes) entries new
+all_like [] entries new small within e = subst (IsLonger zero entries) (same_list entries new e) (omega arith, small)
+all_like (change ∷ changes) entries new small within e =
+    let parts = both-within (change_shape change) (commands_shape changes) within in
+    step_like entries new small change changes parts.0 (λ own given same. all_like changes own new given parts.1 same) (changed parameters entries change) refl e
+
+-- a WHATIF has few changes
+few_changes : (count : ℕ) → passed_limit (shape_of_count count) ≡ None → count ≤ MAX_CHANGES
+few_changes count within = go (nat_lt MAX_CHANGES count) refl within
+  where
+    go : (b : Bool) → nat_lt MAX_CHANGES count ≡ b → cond b (Some change_count) None ≡ None → count ≤ MAX_CHANGES
+    go false is e = ltb-false MAX_CHANGES count is
+    go true is e = absurd (some_none change_count e)
+
+log_like : (changes : List y.LogChange) (entries new : List Entry) → AreSmall entries → passed_limit (changes_shape changes) ≡ None → changed_log parameters entries changes ≡ Ok new
+    → IsLonger MAX_CHANGES entries new
+log_like changes entries new small within e =
+    let parts = both-within (shape_of_count (length changes)) (commands_shape changes) within in
+    let few = few_changes (length changes) parts.0 in
+    let like = all_like changes (map (spread (lines_for changes)) entries) new (spread_small (lines_for changes) entries small) parts.1 e in
+    let same = length-map entries (spread (lines_for changes)) in
+    let long = like.0 in (omega (arith, few, same, long), like.1)
 
 -- ---- a query over a state
 
@@ -265,30 +312,41 @@ query_fits tables query select columns valid is =
     let a = accepted (first_refusal tables (y.select query)) (select_of tables query) select is in
     subst (λ (own : Select). select_fits tables own ≡ true) a.1 (fits tables (y.select query) columns refl valid a.0)
 
-module _ (entries : List Entry) (is : IsExplained entries) (prov : Bool) (point : y.Point) (query : y.Query) (valid : query_is_valid query ≡ true) (few : has_few_items query ≡ true) where
-  ask_explained : ExplainsAsk program_lines entries prov point query
-  ask_explained = go (log_refusal entries point) refl (checked_query (tables_in entries) query) refl
+module _ (entries : List Entry) (is : IsExplained entries) (query : y.Query) (valid : query_is_valid query ≡ true) (few : has_few_items query ≡ true) where
+  -- by the refusal of the log, where the query that is checked has a text
+  asked_explained : (expected : Option Refusal) (prov : Bool) (point : y.Point)
+      → (expected ≡ None → (select : Select) → select_fits (tables_in entries) select ≡ true → HasFewTables select → Explains entries point select prov (explained_text entries prov point select))
+      → ExplainsAsk program_lines entries expected prov point query
+  asked_explained expected prov point says = go expected refl (checked_query (tables_in entries) query) refl
     where
-      go : (refusal : Option Refusal) → log_refusal entries point ≡ refusal → (found : Result Select Refusal) → checked_query (tables_in entries) query ≡ found
+      go : (refusal : Option Refusal) → expected ≡ refusal → (found : Result Select Refusal) → checked_query (tables_in entries) query ≡ found
           → IfOk (asked refusal found) (λ (select : Select). LinesExplain entries point select prov (program_lines entries prov point select))
       go (Some refusal) known found e = tt
       go None known (Err refusal) e = tt
       go None known (Ok select) e =
           let text = explained_text entries prov point select in
           let explains : Explains entries point select prov text =
-          small_explained entries is.small is.fit prov select (query_fits (tables_in entries) query select is.valid valid e) (checked-few (tables_in entries) query select None few e) is.named point known in
+          says known select (query_fits (tables_in entries) query select is.valid valid e) (checked-few (tables_in entries) query select None few e) in
           (text, spelled_lines (tables_in entries) explains.program text explains.spelled, explains)
+
+  ask_explained : (prov : Bool) (point : y.Point) → ExplainsAsk program_lines entries (log_refusal entries point) prov point query
+  ask_explained prov point =
+      asked_explained (log_refusal entries point) prov point (λ known select fits short. small_explained entries is.small is.fit prov select fits short is.named point known)
+
+  saw_explained : (t k : ℕ) → ExplainsAsk program_lines entries (seen_refusal t k entries) false (y.after t k) query
+  saw_explained t k =
+      asked_explained (seen_refusal t k entries) false (y.after t k) (λ known select fits short. small_saw_explained entries t k known is.small is.fit select fits short is.named)
 
 -- ---- questions
 
 module _ (entries : List Entry) (is : IsExplained entries) (few : length entries ≤ MAX_ENTRIES)
-    (put_in : (new : List Entry) (change : y.LogChange) → has_statement change ≡ true → change_is_valid change ≡ true → changed_log parameters entries change ≡ Ok new
+    (put_in : (new : List Entry) (changes : List y.LogChange) → have_statements changes ≡ true → changes_are_valid changes ≡ true → changed_log parameters entries changes ≡ Ok new
     → (statements_fit (tables_in new) new ≡ true) × (tables_in new ≡ tables_in entries)) where
-  changed_explained : (new : List Entry) (change : y.LogChange) → has_statement change ≡ true → change_is_valid change ≡ true → passed_limit (change_shape change) ≡ None
-      → changed_log parameters entries change ≡ Ok new → IsExplained new
-  changed_explained new change kind valid within e =
-      let own = put_in new change kind valid e in
-      let like = changed_like entries new is.small.statements change within e in
+  changed_explained : (new : List Entry) (changes : List y.LogChange) → have_statements changes ≡ true → changes_are_valid changes ≡ true → passed_limit (changes_shape changes) ≡ None
+      → changed_log parameters entries changes ≡ Ok new → IsExplained new
+  changed_explained new changes kind valid within e =
+      let own = put_in new changes kind valid e in
+      let like = log_like changes entries new is.small.statements within e in
       let long = like.0 in
       record {
         small = record {
@@ -302,15 +360,17 @@ module _ (entries : List Entry) (is : IsExplained entries) (few : length entries
       }
 
   question_explained : (asked : y.Question) → question_is_valid asked ≡ true → passed_limit (question_shape asked) ≡ None → ExplainsQuestion program_lines entries asked
-  question_explained (y.ask (y.explain prov) point query) valid within =
-      let parts = valid-parts (y.explain prov) point query valid in ask_explained entries is prov point query parts.0 parts.1
-  question_explained (y.what_if change (y.explain prov) point query) valid within = go (changed_log parameters entries change) refl
+  question_explained (y.ask (y.of_state (y.explain prov) point) query) valid within =
+      let parts = valid-parts (y.of_state (y.explain prov) point) query valid in ask_explained entries is query parts.0 parts.1 prov point
+  question_explained (y.what_if changes (y.of_state (y.explain prov) point) query) valid within = go (changed_log parameters entries changes) refl
     where
-      go : (found : Result (List Entry) Refusal) → changed_log parameters entries change ≡ found → IfOk found (λ (own : List Entry). ExplainsAsk program_lines own prov point query)
+      go : (found : Result (List Entry) Refusal) → changed_log parameters entries changes ≡ found → IfOk found (λ (own : List Entry). ExplainsAsk program_lines own (log_refusal own point) prov point query)
       go (Err refusal) e = tt
       go (Ok own) e =
-          let parts = valid-change change (y.explain prov) point query valid in
-          ask_explained own (changed_explained own change parts.0 parts.1.0 (both-within (change_shape change) (query_shape query) within).0 e) prov point query parts.1.1.0 parts.1.1.1
+          let parts = valid-change changes (y.of_state (y.explain prov) point) query valid in
+          ask_explained own (changed_explained own changes parts.0 parts.1.0 (both-within (changes_shape changes) (query_shape query) within).0 e) query parts.1.1.0 parts.1.1.1 prov point
+  question_explained (y.explain_saw t k query) valid within =
+      let parts = and_parts (query_is_valid query) (has_few_items query) valid in saw_explained entries is query parts.0 parts.1 t k
   question_explained asked valid within = tt
 
   line_explained : (text : List ℕ) → IfOk (question_of text) (ExplainsQuestion program_lines entries)
@@ -342,9 +402,9 @@ dump_explained dump is =
 -- the statements of a changed log fit, by the laws of changed logs
 pub questions_explained : (bytes file : List ℕ) (dump : Dump) (questions : List ReadQuestion) → WellFormed bytes dump → AreQuestions file questions
     → KeepsSessions dump.entries
-    → ((change : y.LogChange) → tables_are_valid (tables_in dump.entries) ≡ true → has_statement change ≡ true → change_is_valid change ≡ true → ChecksFit parameters dump.entries change)
-    → ((new : List Entry) (change : y.LogChange) → IsReplayable dump.entries → ChecksFit parameters dump.entries change → changed_log parameters dump.entries change ≡ Ok new → IsReplayable new)
-    → ((new : List Entry) (change : y.LogChange) → changed_log parameters dump.entries change ≡ Ok new → tables_in new ≡ tables_in dump.entries)
+    → ((changes : List y.LogChange) → tables_are_valid (tables_in dump.entries) ≡ true → have_statements changes ≡ true → changes_are_valid changes ≡ true → ChecksFit parameters dump.entries changes)
+    → ((new : List Entry) (changes : List y.LogChange) → IsReplayable dump.entries → ChecksFit parameters dump.entries changes → changed_log parameters dump.entries changes ≡ Ok new → IsReplayable new)
+    → ((new : List Entry) (changes : List y.LogChange) → changed_log parameters dump.entries changes ≡ Ok new → tables_in new ≡ tables_in dump.entries)
     → ExplainsLines program_lines dump.entries questions
 questions_explained bytes file dump questions formed are sessions fitting kept same =
     let is : IsDump dump = (whole-text bytes dump formed).rules in
@@ -352,4 +412,4 @@ questions_explained bytes file dump questions formed are sessions fitting kept s
     let replayable : IsReplayable dump.entries = record { sessions = sessions; fits = statements_of_dumps dump is } in
     subst (ExplainsLines program_lines dump.entries) (sym (one-file file questions are))
     (file_explained dump.entries own is.few_entries
-    (λ new change kind fine e. ((kept new change replayable (fitting change own.valid kind fine) e).fits, same new change e)) (script_lines file))
+    (λ new changes kind fine e. ((kept new changes replayable (fitting changes own.valid kind fine) e).fits, same new changes e)) (script_lines file))

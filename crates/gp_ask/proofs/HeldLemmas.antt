@@ -1,5 +1,5 @@
 -- The answers of the dump of a history are those that the history held.
-use Rattle.std.proofs.Common.{◌≡◌, ℕ, zero, suc, nat_lt, List, [], ◌++◌, ◌∷◌, length, map, Option, Some, None, Result, Ok, Err, refl, sym, ap, ◌∙◌, if◌then◌else◌}
+use Rattle.std.proofs.Common.{◌≡◌, ℕ, zero, suc, nat_lt, false, List, [], ◌++◌, ◌∷◌, length, map, Option, Some, None, Result, Ok, Err, refl, sym, ap, ◌∙◌, if◌then◌else◌}
 use Rattle.std.specs.List.Sorted.{IsPermutation}
 use Rattle.std.specs.Option.{option_or}
 use Rattle.std.proofs.lemmas.List.{length-map}
@@ -38,9 +38,13 @@ use Rattle.gp_dump.specs.WholeDumps.{dump_with}
 use Rattle.gp_history.specs.Agreement.{agree}
 use Rattle.gp_history.specs.Agreement.{occurrence}
 use Rattle.gp_ask.specs.declared.answered.Answered.{Answered}
-use Rattle.gp_ask.specs.declared.answered.Answered.TheVariants.{Checked, Listed, Refused, Rows}
+use Rattle.gp_ask.specs.declared.answered.Answered.TheVariants.{Checked, Listed, Program, Refused, Rows}
 use Rattle.gp_replay.specs.Differences.{difference}
-use Rattle.gp_ask.specs.Printed.{answer_to, held_to, ask_to, ask_held, what_if_held}
+use Rattle.gp_ask.specs.SerialAnswers.{serial_answer}
+use Rattle.gp_ask.specs.Made.{unmade_refusal}
+use Rattle.gp_ask.specs.Printed.{answer_to, held_to, query_held, query_to, what_if_held}
+use Rattle.gp_ask.specs.Programs.{program_lines}
+use Rattle.gp_ask.specs.Seeing.{seen_refusal}
 use Rattle.gp_ask.specs.Asking.{of_elements, query_answer, table_spans, with_monomials}
 use Rattle.gp_ask.specs.AskingForms.{dump_program, dump_provenance, dump_query, dump_remaining, dump_rows, held_provenance, held_remaining, held_rows, rules_of, versions_answer}
 use Rattle.gp_ask.specs.ValueForms.{dump_minimal, dump_valued, dump_values, held_minimal, held_valued, held_values}
@@ -51,6 +55,7 @@ use Rattle.gp_ask.specs.Witnesses.{minimal_of}
 use Rattle.gp_ask.proofs.CountedLemmas.{answers_count}
 use Rattle.gp_ask.proofs.DifferenceLemmas.{causes-same, diff-same}
 use Rattle.gp_ask.proofs.GroupedRows.{listed-are}
+use Rattle.gp_ask.proofs.IntervalLemmas.{when-same}
 use Rattle.gp_ask.proofs.MovedLemmas.{remaining_moved}
 use Rattle.gp_ask.proofs.ProvenanceLemmas.{same-list}
 use Rattle.gp_ask.proofs.QueryLemmas.{query-same}
@@ -193,7 +198,7 @@ module _ (forgets : Forgets) (state : State Monomial) where
           ap (λ (catalogue : List Table). query_answer found (log_refusal state.entries point) (checked_query catalogue query)) kept
           ∙ query-same found held same (log_refusal state.entries point) (checked_query state.catalogue query)
 
-      pub asked : (how : y.How) (point : y.Point) (query : y.Query) → answer_to dump (y.ask how point query) ≡ held_to state (y.ask how point query)
+      pub asked : (how : y.How) (point : y.Point) (query : y.Query) → answer_to dump (y.ask (y.of_state how point) query) ≡ held_to state (y.ask (y.of_state how point) query)
       asked y.rows point query = query-held (dump_rows dump point) (held_rows state point) (rows-held point) point query
       asked y.provenance point query = query-held (dump_provenance dump point) (held_provenance state point) (provenance-held point) point query
       asked (y.explain prov) point query = query-held (dump_program dump prov point) (dump_program dump prov point) (λ select. refl) point query
@@ -213,25 +218,40 @@ module _ (state : State Monomial) (spans-kept : (table : ℕ) → state_spans (f
   dump-same : dump_of (forgetting state) ≡ dump_of state
   dump-same = ap (dump_with state.entries) (spans-same (length state.catalogue))
 
-  -- LOG and VERSIONS print the dump, and what would be with a change is told by the log
-  -- SAW and CHANGES tell what the machine held, of transactions whatever became of them
-  pub held : tables_in state.entries ≡ state.catalogue → ((t k : ℕ) (query : y.Query) → answer_to (dump_of (forgetting state)) (y.saw t k query) ≡ held_to state (y.saw t k query))
-      → ((t k : ℕ) → answer_to (dump_of (forgetting state)) (y.changes t k) ≡ held_to state (y.changes t k))
-      → ((t : ℕ) → answer_to (dump_of state) (y.commit_changes t) ≡ held_to state (y.commit_changes t))
-      → ((how : y.How) (point : y.Point) (query : y.Query) → answer_to (dump_of (forgetting state)) (y.ask how point query) ≡ held_to state (y.ask how point query))
-      → difference (dump_of (forgetting state)) ≡ None
-      → (question : y.Question) → answer_to (dump_of (forgetting state)) question ≡ held_to state question
-  held whole sees alters commits asks same y.transactions = refl
-  held whole sees alters commits asks same (y.log t) = refl
-  held whole sees alters commits asks same (y.versions name) =
-      ap (λ (dump : Dump). answer_to dump (y.versions name)) dump-same ∙ ap (λ (catalogue : List Table). versions_answer name (dump_of state).tables (place_of name catalogue)) whole
-  held whole sees alters commits asks same (y.saw t k query) = sees t k query
-  held whole sees alters commits asks same (y.changes t k) = alters t k
-  held whole sees alters commits asks same (y.commit_changes t) = ap (λ (dump : Dump). answer_to dump (y.commit_changes t)) dump-same ∙ commits t
-  held whole sees alters commits asks same y.check = ap Checked same
-  held whole sees alters commits asks same (y.diff first second query) =
-      diff-same (ask_to (dump_of (forgetting state))) (ask_held state) (what_if_held state.entries) (what_if_held state.entries) asks (λ change how point query. refl) first second query
-  held whole sees alters commits asks same (y.causes kept query) =
-      causes-same (ask_to (dump_of (forgetting state))) (ask_held state) (what_if_held state.entries) (what_if_held state.entries) asks (λ change how point query. refl) state.entries kept query
-  held whole sees alters commits asks same (y.ask how point query) = asks how point query
-  held whole sees alters commits asks same (y.what_if change how point query) = refl
+  -- LOG and VERSIONS print the dump, and what would be with changes is told by the log. SAW, CHANGES and CONFLICTS tell what the machine held, of transactions whatever
+  -- became of them, HISTORY of those that committed; WHEN is told by its answers.
+  module _ (whole : tables_in state.entries ≡ state.catalogue) (sees : (t k : ℕ) (query : y.Query) → answer_to (dump_of (forgetting state)) (y.ask (y.saw t k) query) ≡ held_to state (y.ask (y.saw t k) query))
+      (alters : (t k : ℕ) → answer_to (dump_of (forgetting state)) (y.changes t k) ≡ held_to state (y.changes t k))
+      (commits : (t : ℕ) → answer_to (dump_of state) (y.commit_changes t) ≡ held_to state (y.commit_changes t))
+      (meets : (t : ℕ) → answer_to (dump_of (forgetting state)) (y.conflicts t) ≡ held_to state (y.conflicts t))
+      (lives : (name : y.Bytes) (cond : Option y.Term) → answer_to (dump_of (forgetting state)) (y.history name cond) ≡ held_to state (y.history name cond))
+      (asks : (how : y.How) (point : y.Point) (query : y.Query) → answer_to (dump_of (forgetting state)) (y.ask (y.of_state how point) query) ≡ held_to state (y.ask (y.of_state how point) query))
+      (made : unmade_refusal (dump_of (forgetting state)) ≡ None) (same : difference (dump_of (forgetting state)) ≡ None) where
+    of-subject : (subject : y.Subject) (query : y.Query) → query_to (dump_of (forgetting state)) subject query ≡ query_held state subject query
+    of-subject (y.of_state how point) query = asks how point query
+    of-subject (y.saw t k) query = sees t k query
+
+    pub held : (question : y.Question) → answer_to (dump_of (forgetting state)) question ≡ held_to state question
+    held y.transactions = refl
+    held (y.log t) = refl
+    held (y.versions name) =
+        ap (λ (dump : Dump). answer_to dump (y.versions name)) dump-same ∙ ap (λ (catalogue : List Table). versions_answer name (dump_of state).tables (place_of name catalogue)) whole
+    held (y.changes t k) = alters t k
+    held (y.commit_changes t) = ap (λ (dump : Dump). answer_to dump (y.commit_changes t)) dump-same ∙ commits t
+    held (y.conflicts t) = meets t
+    held (y.history name cond) = lives name cond
+    held (y.when query) = when-same (query_to (dump_of (forgetting state))) (query_held state) of-subject state.entries query
+    held y.serial = ap serial_answer dump-same
+    held y.check = ap Checked same
+    held (y.diff first second query) =
+        diff-same (query_to (dump_of (forgetting state))) (query_held state) (what_if_held state.entries) (what_if_held state.entries) of-subject (λ changes subject own. refl)
+        (unmade_refusal (dump_of (forgetting state))) None made state.entries first second query
+    held (y.causes subject query) =
+        causes-same (query_to (dump_of (forgetting state))) (query_held state) (what_if_held state.entries) (what_if_held state.entries) of-subject (λ changes other own. refl)
+        (unmade_refusal (dump_of (forgetting state))) None made state.entries subject query
+    held (y.ask subject query) = of-subject subject query
+    held (y.what_if changes subject query) = refl
+    held (y.explain_saw t k query) =
+        ap
+        (λ (catalogue : List Table). query_answer (λ (select : Select). Program (program_lines state.entries false (y.after t k) select)) (seen_refusal t k state.entries) (checked_query catalogue query))
+        whole

@@ -14,7 +14,8 @@ use Rattle.gp_machine.specs.ReplayForms.{replayed_spans}
 use Rattle.gp_whatif.specs.Replays.{stop_upto}
 use Rattle.gp_dump.specs.Dumps.{Dump}
 use Rattle.gp_ask.specs.declared.answered.Answered.{Answered}
-use Rattle.gp_ask.specs.Printed.{answer_to, ask_to, ask_held, changed_answer, remade_answer, what_if_held}
+use Rattle.gp_ask.specs.Made.{unmade_refusal}
+use Rattle.gp_ask.specs.Printed.{answer_to, changed_answer, query_held, query_to, remade_answer, what_if_held}
 use Rattle.gp_ask.specs.Computed.{computed_answer, what_if_answer}
 use Rattle.gp_ask.specs.Asking.{table_spans}
 use Rattle.gp_ask.specs.Hypothetical.{asking_refusal, remaking_refusal, replay_refusal, replayed_dump}
@@ -27,20 +28,20 @@ use Rattle.gp_ask.proofs.SpanLemmas.{dumped}
 abbrev pub AnswersAny : List Entry → Type 0
 AnswersAny entries = (tables : List (List Span))
     → ((place : ℕ) → IsPermutation (table_spans tables place) (replayed_spans unannotated (log_of entries) (length (tables_in entries)) (versions_in entries) place))
-    → (how : y.How) (point : y.Point) (query : y.Query)
-    → ask_to (dump_in entries tables) how point query ≡ ask_held (replayed_state monomials (tables_in entries) entries) how point query
+    → (subject : y.Subject) (query : y.Query)
+    → query_to (dump_in entries tables) subject query ≡ query_held (replayed_state monomials (tables_in entries) entries) subject query
 
 module _ (entries : List Entry) (beyond : (place : ℕ) → length (tables_in entries) ≤ place → replayed_spans unannotated (log_of entries) (length (tables_in entries)) (versions_in entries) place ≡ []) where
   -- so from the dump in order
-  pub ordered : AnswersAny entries → (how : y.How) (point : y.Point) (query : y.Query)
-      → ask_to (replayed_dump entries) how point query ≡ ask_held (replayed_state monomials (tables_in entries) entries) how point query
-  ordered any how point query = any (replayed_dump entries).tables (dumped (replayed_state unannotated (tables_in entries) entries) beyond) how point query
+  pub ordered : AnswersAny entries → (subject : y.Subject) (query : y.Query)
+      → query_to (replayed_dump entries) subject query ≡ query_held (replayed_state monomials (tables_in entries) entries) subject query
+  ordered any subject query = any (replayed_dump entries).tables (dumped (replayed_state unannotated (tables_in entries) entries) beyond) subject query
 
   -- and from each dump as from that one
   pub any-order : AnswersAny entries → (tables : List (List Span))
       → ((place : ℕ) → IsPermutation (table_spans tables place) (replayed_spans unannotated (log_of entries) (length (tables_in entries)) (versions_in entries) place))
-      → (how : y.How) (point : y.Point) (query : y.Query) → ask_to (dump_in entries tables) how point query ≡ ask_to (replayed_dump entries) how point query
-  any-order any tables are how point query = any tables are how point query ∙ sym (ordered any how point query)
+      → (subject : y.Subject) (query : y.Query) → query_to (dump_in entries tables) subject query ≡ query_to (replayed_dump entries) subject query
+  any-order any tables are subject query = any tables are subject query ∙ sym (ordered any subject query)
 
 module _ (entries : List Entry) (beyond : (place : ℕ) → length (tables_in entries) ≤ place → replayed_spans unannotated (log_of entries) (length (tables_in entries)) (versions_in entries) place ≡ [])
     (any : stop_upto entries (versions_in entries) ≡ None → AnswersAny entries) where
@@ -54,47 +55,54 @@ module _ (entries : List Entry) (beyond : (place : ℕ) → length (tables_in en
       by None none = same none
       by (Some stop) is = refl
 
-  by-rows : (how : y.How) (point : y.Point) (query : y.Query)
-      → unless_refused (asking_refusal entries how point query)
-      (unless_refused (remaking_refusal entries) (ask_to (replayed_dump entries) how point query))
-      ≡ unless_refused (asking_refusal entries how point query)
-      (unless_refused (remaking_refusal entries) (ask_held (replayed_state monomials (tables_in entries) entries) how point query))
-  by-rows how point query =
-      ap (unless_refused (asking_refusal entries how point query))
-      (unless-stopped (ask_to (replayed_dump entries) how point query) (ask_held (replayed_state monomials (tables_in entries) entries) how point query)
-      (λ none. ordered entries beyond (any none) how point query))
+  by-rows : (subject : y.Subject) (query : y.Query)
+      → unless_refused (asking_refusal entries subject query)
+      (unless_refused (remaking_refusal entries) (query_to (replayed_dump entries) subject query))
+      ≡ unless_refused (asking_refusal entries subject query)
+      (unless_refused (remaking_refusal entries) (query_held (replayed_state monomials (tables_in entries) entries) subject query))
+  by-rows subject query =
+      ap (unless_refused (asking_refusal entries subject query))
+      (unless-stopped (query_to (replayed_dump entries) subject query) (query_held (replayed_state monomials (tables_in entries) entries) subject query)
+      (λ none. ordered entries beyond (any none) subject query))
 
-  pub remade : (how : y.How) (point : y.Point) (query : y.Query)
-      → remade_answer (ask_to (replayed_dump entries)) entries how point query
-      ≡ remade_answer (ask_held (replayed_state monomials (tables_in entries) entries)) entries how point query
-  remade (y.explain prov) point query = refl
-  remade y.rows point query = by-rows y.rows point query
-  remade y.provenance point query = by-rows y.provenance point query
-  remade (y.value name rules other) point query = by-rows (y.value name rules other) point query
-  remade (y.without patterns) point query = by-rows (y.without patterns) point query
+  pub remade : (subject : y.Subject) (query : y.Query)
+      → remade_answer (query_to (replayed_dump entries)) entries subject query
+      ≡ remade_answer (query_held (replayed_state monomials (tables_in entries) entries)) entries subject query
+  remade (y.of_state (y.explain prov) point) query = refl
+  remade (y.of_state y.rows point) query = by-rows (y.of_state y.rows point) query
+  remade (y.of_state y.provenance point) query = by-rows (y.of_state y.provenance point) query
+  remade (y.of_state (y.value name rules other) point) query = by-rows (y.of_state (y.value name rules other) point) query
+  remade (y.of_state (y.without patterns) point) query = by-rows (y.of_state (y.without patterns) point) query
+  remade (y.saw t k) query = by-rows (y.saw t k) query
 
-pub changed-same : (found : Result (List Entry) Refusal) (how : y.How) (point : y.Point) (query : y.Query)
+pub changed-same : (found : Result (List Entry) Refusal) (subject : y.Subject) (query : y.Query)
     → ((entries : List Entry) → found ≡ Ok entries
-    → remade_answer (ask_to (replayed_dump entries)) entries how point query ≡ remade_answer (ask_held (replayed_state monomials (tables_in entries) entries)) entries how point query)
-    → changed_answer (λ own. ask_to (replayed_dump own)) found how point query
-    ≡ changed_answer (λ own. ask_held (replayed_state monomials (tables_in own) own)) found how point query
-changed-same (Err refusal) how point query same = refl
-changed-same (Ok entries) how point query same = same entries refl
+    → remade_answer (query_to (replayed_dump entries)) entries subject query ≡ remade_answer (query_held (replayed_state monomials (tables_in entries) entries)) entries subject query)
+    → changed_answer (λ own. query_to (replayed_dump own)) found subject query
+    ≡ changed_answer (λ own. query_held (replayed_state monomials (tables_in own) own)) found subject query
+changed-same (Err refusal) subject query same = refl
+changed-same (Ok entries) subject query same = same entries refl
 
 -- questions without a change are answered from the dump itself
 pub remade-same : (dump : Dump)
-    → ((change : y.LogChange) (how : y.How) (point : y.Point) (query : y.Query) → what_if_answer dump.entries change how point query ≡ what_if_held dump.entries change how point query)
+    → ((own : List y.LogChange) (subject : y.Subject) (query : y.Query) → what_if_answer dump.entries own subject query ≡ what_if_held dump.entries own subject query)
     → (question : y.Question) → computed_answer dump question ≡ answer_to dump question
 remade-same dump changes y.transactions = refl
 remade-same dump changes (y.log t) = refl
 remade-same dump changes (y.versions name) = refl
-remade-same dump changes (y.saw t k query) = refl
 remade-same dump changes (y.changes t k) = refl
 remade-same dump changes (y.commit_changes t) = refl
+remade-same dump changes (y.conflicts t) = refl
+remade-same dump changes (y.history name cond) = refl
+remade-same dump changes (y.when query) = refl
+remade-same dump changes y.serial = refl
 remade-same dump changes y.check = refl
 remade-same dump changes (y.diff first second query) =
-    diff-same (ask_to dump) (ask_to dump) (what_if_answer dump.entries) (what_if_held dump.entries) (λ how point query. refl) changes first second query
-remade-same dump changes (y.causes kept query) =
-    causes-same (ask_to dump) (ask_to dump) (what_if_answer dump.entries) (what_if_held dump.entries) (λ how point query. refl) changes dump.entries kept query
-remade-same dump changes (y.ask how point query) = refl
-remade-same dump changes (y.what_if change how point query) = changes change how point query
+    diff-same (query_to dump) (query_to dump) (what_if_answer dump.entries) (what_if_held dump.entries) (λ subject own. refl) changes (unmade_refusal dump) (unmade_refusal dump) refl dump.entries
+    first second query
+remade-same dump changes (y.causes subject query) =
+    causes-same (query_to dump) (query_to dump) (what_if_answer dump.entries) (what_if_held dump.entries) (λ other own. refl) changes (unmade_refusal dump) (unmade_refusal dump) refl dump.entries
+    subject query
+remade-same dump changes (y.ask subject query) = refl
+remade-same dump changes (y.what_if own subject query) = changes own subject query
+remade-same dump changes (y.explain_saw t k query) = refl

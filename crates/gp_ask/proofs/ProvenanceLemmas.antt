@@ -19,8 +19,8 @@ use Rattle.gp_machine.specs.Entries.{Entry, versions_in}
 use Rattle.gp_machine.specs.Questions.{annotated_answer}
 use Rattle.gp_versions.specs.declared.span.Span.{Span}
 use Rattle.gp_versions.specs.Spans.{Versions}
-use Rattle.gp_reenact.specs.declared.error.ReenactStop.{ReenactStop}
-use Rattle.gp_reenact.specs.declared.error.ReenactStop.TheVariants as stop
+use Rattle.gp_base.specs.declared.stop.Stop.{Stop}
+use Rattle.gp_base.specs.declared.stop.Stop.TheVariants as stop
 use Rattle.gp_reenact.specs.Reenacting.{spans_of}
 use Rattle.gp_whatif.specs.Replays.{IsReplayable}
 use Rattle.gp_dump.specs.declared.dump.Dump as code
@@ -109,7 +109,7 @@ module _ (dump : Dump) (point : y.Point) (select : Select) where
   abbrev expected : (ℕ → List Span) → Result (List (Element Monomial)) Refusal
   expected spans = annotated_answer monomials parameters agree (tables_in dump.entries) dump.entries spans point select
 
-  pub proves-moved : {X : Type 0} (view : X → List (List Cell)) (found : Result X ReenactStop) (own : ℕ → List Span) → own ≡ table_spans dump.tables → Proves view found (expected own) → Proves view found (expected (table_spans dump.tables))
+  pub proves-moved : {X : Type 0} (view : X → List (List Cell)) (found : Result X Stop) (own : ℕ → List Span) → own ≡ table_spans dump.tables → Proves view found (expected own) → Proves view found (expected (table_spans dump.tables))
   proves-moved view found own same proves = subst (λ (spans : ℕ → List Span). Proves view found (expected spans)) same proves
 
   pub is-listed : {X : Type 0} (view : X → List (List Cell)) (found : X) → Proves view (Ok found) (expected (table_spans dump.tables)) → Listed (listed (view found)) ≡ dump_provenance dump point select

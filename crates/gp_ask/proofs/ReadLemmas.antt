@@ -3,8 +3,8 @@ use Rattle.std.proofs.Common.{◌≡◌, ℕ, Bool, true, false, not, ◌&&◌, 
 use Rattle.gp_base.specs.declared.refusal.Refusal.{Refusal}
 use Rattle.gp_grammar.specs.Capping.{capped_question}
 use Rattle.gp_grammar.specs.declared.limits.TheConstants.{MAX_FROM}
-use Rattle.gp_grammar.specs.Laws.{has_statement, has_statements, side_has_statement}
-use Rattle.gp_grammar.specs.Limits.{Shape, both, change_shape, passed_limit, query_shape, question_shape, side_shape, some_above}
+use Rattle.gp_grammar.specs.Laws.{has_statements, have_statements, side_has_statements}
+use Rattle.gp_grammar.specs.Limits.{Shape, both, changes_shape, passed_limit, query_shape, question_shape, side_shape, some_above}
 use Rattle.gp_grammar.specs.LineReading.{Fault}
 use Rattle.gp_grammar.specs.Reading.{question_of}
 use Rattle.gp_grammar.specs.QuestionGrammar.{IsQuestion}
@@ -18,7 +18,7 @@ use Rattle.gp_grammar.proofs.ShapeLemmas.{first_limit, of_shape, questions-fair}
 use Rattle.gp_syntax.specs.Refusals.{refusal_of_fault}
 use Rattle.gp_syntax.specs.ReadResults.{refusal_in}
 use Rattle.gp_check.specs.Valid as check
-use Rattle.gp_check.specs.Valid.{change_is_valid, query_is_valid, side_is_valid}
+use Rattle.gp_check.specs.Valid.{changes_are_valid, query_is_valid, side_is_valid}
 use Rattle.gp_check.proofs.ValidLemmas.{question-read}
 use Rattle.gp_ask.specs.declared.answered.Answered.{Answered}
 use Rattle.gp_ask.specs.declared.answered.Answered.TheVariants.{Refused}
@@ -29,26 +29,30 @@ use Rattle.gp_ask.specs.Questions.{answered}
 use Rattle.std.proofs.lemmas.Bool.{and_from, and_parts}
 
 -- within the limits the items of each FROM are within theirs
-from-within : (c f b v n d : Bool) → first_limit c f b v n d ≡ None → f ≡ false
-from-within true f b v n d is = absurd cc
-from-within false true b v n d is = absurd cc
-from-within false false b v n d is = refl
+from-within : (c f b v n d k : Bool) → first_limit c f b v n d k ≡ None → f ≡ false
+from-within true f b v n d k is = absurd cc
+from-within false true b v n d k is = absurd cc
+from-within false false b v n d k is = refl
 
 pub within-from : (shape : Shape) → passed_limit shape ≡ None → some_above MAX_FROM shape.from ≡ false
-within-from shape none = from-within _ _ _ _ _ _ (sym (of_shape shape) ∙ none)
+within-from shape none = from-within _ _ _ _ _ _ _ (sym (of_shape shape) ∙ none)
 
 few-within : (question : y.Question) → passed_limit (question_shape question) ≡ None → keeps_from question ≡ true
 few-within y.transactions within = refl
 few-within (y.log t) within = refl
 few-within (y.versions name) within = refl
-few-within (y.saw t k query) within = ap not (within-from (query_shape query) within)
 few-within (y.changes t k) within = refl
 few-within (y.commit_changes t) within = refl
+few-within (y.conflicts t) within = refl
+few-within (y.history name cond) within = refl
+few-within (y.when query) within = ap not (within-from (query_shape query) within)
+few-within y.serial within = refl
 few-within y.check within = refl
 few-within (y.diff first second query) within = ap not (within-from (query_shape query) (both-within (both (side_shape first) (side_shape second)) (query_shape query) within).1)
-few-within (y.causes kept query) within = ap not (within-from (query_shape query) within)
-few-within (y.ask how state query) within = ap not (within-from (query_shape query) within)
-few-within (y.what_if change how state query) within = ap not (within-from (query_shape query) (both-within (change_shape change) (query_shape query) within).1)
+few-within (y.causes subject query) within = ap not (within-from (query_shape query) within)
+few-within (y.ask subject query) within = ap not (within-from (query_shape query) within)
+few-within (y.what_if changes subject query) within = ap not (within-from (query_shape query) (both-within (changes_shape changes) (query_shape query) within).1)
+few-within (y.explain_saw t k query) within = ap not (within-from (query_shape query) within)
 
 pub read-valid : (text : List ℕ) (question : y.Question) → question_of text ≡ Ok question → question_is_valid question ≡ true
 read-valid text own is =
@@ -58,28 +62,28 @@ read-valid text own is =
 
 -- ---- the parts of a valid question
 
-pub valid-parts : (how : y.How) (state : y.Point) (query : y.Query) → question_is_valid (y.ask how state query) ≡ true → (query_is_valid query ≡ true) × (has_few_items query ≡ true)
-valid-parts how state query valid = and_parts (query_is_valid query) (has_few_items query) valid
+pub valid-parts : (subject : y.Subject) (query : y.Query) → question_is_valid (y.ask subject query) ≡ true → (query_is_valid query ≡ true) × (has_few_items query ≡ true)
+valid-parts subject query valid = and_parts (query_is_valid query) (has_few_items query) valid
 
-pub valid-change : (change : y.LogChange) (how : y.How) (state : y.Point) (query : y.Query) → question_is_valid (y.what_if change how state query) ≡ true
-    → (has_statement change ≡ true) × ((change_is_valid change ≡ true) × ((query_is_valid query ≡ true) × (has_few_items query ≡ true)))
-valid-change change how state query valid =
-    let outer = and_parts (has_statement change) ((change_is_valid change && query_is_valid query) && has_few_items query) valid in
-    let inner = and_parts (change_is_valid change && query_is_valid query) (has_few_items query) outer.1 in
-    let parts = and_parts (change_is_valid change) (query_is_valid query) inner.0 in
+pub valid-change : (changes : List y.LogChange) (subject : y.Subject) (query : y.Query) → question_is_valid (y.what_if changes subject query) ≡ true
+    → (have_statements changes ≡ true) × ((changes_are_valid changes ≡ true) × ((query_is_valid query ≡ true) × (has_few_items query ≡ true)))
+valid-change changes subject query valid =
+    let outer = and_parts (have_statements changes) ((changes_are_valid changes && query_is_valid query) && has_few_items query) valid in
+    let inner = and_parts (changes_are_valid changes && query_is_valid query) (has_few_items query) outer.1 in
+    let parts = and_parts (changes_are_valid changes) (query_is_valid query) inner.0 in
     (outer.0, (parts.0, (parts.1, inner.1)))
 
 -- what the code asks of a side
 abbrev pub SideIsValid : y.Side → Type 0
-SideIsValid side = (side_has_statement side ≡ true) × (side_is_valid side ≡ true)
+SideIsValid side = (side_has_statements side ≡ true) × (side_is_valid side ≡ true)
 
 pub valid-diff : (first second : y.Side) (query : y.Query) → question_is_valid (y.diff first second query) ≡ true
     → (SideIsValid first × SideIsValid second) × ((query_is_valid query ≡ true) × (has_few_items query ≡ true))
 valid-diff first second query valid =
-    let outer = and_parts (side_has_statement first && side_has_statement second) (((side_is_valid first && side_is_valid second) && query_is_valid query) && has_few_items query) valid in
+    let outer = and_parts (side_has_statements first && side_has_statements second) (((side_is_valid first && side_is_valid second) && query_is_valid query) && has_few_items query) valid in
     let inner = and_parts ((side_is_valid first && side_is_valid second) && query_is_valid query) (has_few_items query) outer.1 in
     let parts = and_parts (side_is_valid first && side_is_valid second) (query_is_valid query) inner.0 in
-    let statements = and_parts (side_has_statement first) (side_has_statement second) outer.0 in
+    let statements = and_parts (side_has_statements first) (side_has_statements second) outer.0 in
     let sides = and_parts (side_is_valid first) (side_is_valid second) parts.0 in
     (((statements.0, sides.0), (statements.1, sides.1)), (parts.1, inner.1))
 

@@ -10,7 +10,7 @@ use Rattle.gp_base.proofs.OrderLemmas.{rows_permuted, rows_sorted, sorted_rows_u
 use Rattle.gp_algebra.specs.Answers.{Element, cells_of}
 use Rattle.gp_reenact.specs.Travel.{no_table}
 use Rattle.gp_versions.specs.Spans.{Versions}
-use Rattle.gp_reenact.specs.declared.error.ReenactStop.TheVariants as stop
+use Rattle.gp_base.specs.declared.stop.Stop.TheVariants as stop
 use Rattle.gp_reenact.specs.Reenacting.{Reenacts, spans_of}
 use Rattle.gp_dump.specs.Views.{tables_view}
 use Rattle.gp_ask.specs.declared.answered.Answered.TheVariants.{Refused, Rows}

@@ -17,7 +17,7 @@ use Rattle.gp_grammar.specs.Syntax as y
 use Rattle.gp_history.specs.Values.{Gives}
 use Rattle.gp_log.specs.Parameters.{parameters}
 use Rattle.gp_machine.specs.Questions.{given}
-use Rattle.gp_reenact.specs.declared.error.ReenactStop.TheVariants as stop
+use Rattle.gp_base.specs.declared.stop.Stop.TheVariants as stop
 use Rattle.gp_semiring.specs.Elements.{no_token, number_up_to}
 use Rattle.gp_semiring.specs.NumberLaws.{count_laws}
 use Rattle.gp_semiring.specs.Sums.{plus_up_to, summed, times_up_to}

@@ -28,12 +28,12 @@ use Rattle.gp_log.specs.LogFacts.{tables_in}
 use Rattle.gp_log.specs.Parameters.{parameters}
 use Rattle.gp_log.specs.Sessions.{KeepsSessions}
 use Rattle.gp_machine.proofs.Distinct.{each_weaker}
-use Rattle.gp_machine.proofs.PointReannotation.{before_reannotated, forgotten_keeps}
+use Rattle.gp_machine.proofs.PointReannotation.{before_reannotated, forgotten_keeps, run_stop_reannotated}
 use Rattle.gp_machine.specs.Entries.{Entry, log_of, statement_at, statement_count, transactions_in, version_of}
 use Rattle.gp_machine.specs.Event.{name_at, target_of}
 use Rattle.gp_machine.specs.HistorySpans.{as_of, state_spans}
 use Rattle.gp_machine.specs.Points.{RunStop, run_stop}
-use Rattle.gp_machine.specs.Questions.{given, is_known, statement_refusal, stop_refusal}
+use Rattle.gp_machine.specs.Questions.{answer_refusal, given, is_known, statement_refusal, stop_refusal}
 use Rattle.gp_machine.specs.Reached.{IsReached}
 use Rattle.gp_machine.specs.ReadBy.{start_by}
 use Rattle.gp_machine.specs.Reading.{wrote_by}
@@ -55,16 +55,16 @@ use Rattle.gp_ask.proofs.HeldLemmas.{forgetting, same-rows}
 use Rattle.gp_ask.proofs.QueryLemmas.{query-same}
 use Rattle.gp_ask.proofs.ReenactedLemmas.{same-order}
 use Rattle.gp_ask.proofs.StatementLines.{changes-told}
-use Rattle.gp_ask.proofs.TransactionRuns.{IsRising, MakesOnce, ReadsWithin, different-after, different-before, own-before, own-starts, passes-none, reads-within, saw, started}
+use Rattle.gp_ask.proofs.TransactionRuns.{IsRising, MakesOnce, ReadsWithin, different-after, different-before, own-before, own-starts, passes-none, reads-within, runs-none, saw, started}
 use Rattle.gp_ask.proofs.WrittenLines.{IsFresh, changes-written}
 
 -- ---- what is not refused
 
-record IsTransaction (t : ℕ) (entries : List Entry) : Type 0 where
+pub record IsTransaction (t : ℕ) (entries : List Entry) : Type 0 where
   pub some : zero < t
   pub known : t ≤ transactions_in entries
 
-is-known : (t : ℕ) (entries : List Entry) → is_known t entries ≡ true → IsTransaction t entries
+pub is-known : (t : ℕ) (entries : List Entry) → is_known t entries ≡ true → IsTransaction t entries
 is-known t entries is =
     let parts = and_parts (nat_lt 0 t) (nat_le t (transactions_in entries)) is in
     record { some = ltb-true 0 t parts.0; known = leb-true t (transactions_in entries) parts.1 }
@@ -115,7 +115,7 @@ module _ (state : State Monomial) (reached : IsReached monomials parameters stat
   abbrev spans : ℕ → List Span
   spans = table_spans tables
 
-  rises : (t : ℕ) → IsRising state.entries t
+  pub rises : (t : ℕ) → IsRising state.entries t
   rises t k within = rising state.entries sessions t k (suc k) (omega arith) (omega arith)
 
   -- ---- SAW
@@ -133,8 +133,11 @@ module _ (state : State Monomial) (reached : IsReached monomials parameters stat
       answered-alike found others moved (saw_refusal t k state.entries) (run_stop unannotated parameters (log_of state.entries) t k (as_of unannotated spans)) none
       (passes-none parameters (forgetting state) plainly spans are t is.some is.known (rises t) k within)
       ∙ same-rows None elements
+      ∙ ap (λ (own : Option RunStop). of_elements (given (option_or (option_map stop_refusal own) (answer_refusal monomials parameters elements)) elements))
+      (sym (sym (run_stop_reannotated monomials unannotated forgotten (forgotten_keeps monomials) state.committed (forgetting state).committed (λ version table. refl) parameters (log_of state.entries) t k)
+      ∙ runs-none parameters (forgetting state) plainly spans are t is.some is.known (rises t) k within))
 
-  pub sees : (t k : ℕ) (query : y.Query) → answer_to dump (y.saw t k query) ≡ held_to state (y.saw t k query)
+  pub sees : (t k : ℕ) (query : y.Query) → answer_to dump (y.ask (y.saw t k) query) ≡ held_to state (y.ask (y.saw t k) query)
   sees t k query =
       ap (λ (catalogue : List Table). query_answer (dump_saw dump t k) (saw_refusal t k state.entries) (checked_query catalogue query)) kept
       ∙ by (saw_refusal t k state.entries) refl
@@ -148,13 +151,13 @@ module _ (state : State Monomial) (reached : IsReached monomials parameters stat
 
   module _ (t k : ℕ) (is : IsTransaction t state.entries) (within : k < statement_count t state.entries) (statement : Statement) (here : statement_at t (suc k) state.entries ≡ Some statement) where
     -- what the statement read, by the rule of the history machine
-    abbrev read-rows : Database Monomial
+    abbrev pub read-rows : Database Monomial
     read-rows = start_by monomials (log_of state.entries) t k state.committed
 
-    abbrev changed : List (Annotated Monomial)
+    abbrev pub changed : List (Annotated Monomial)
     changed = changed_rows monomials t (suc k) statement read-rows
 
-    abbrev found-rows : List (Annotated (Unit {0}))
+    abbrev pub found-rows : List (Annotated (Unit {0}))
     found-rows = changed_rows unannotated t (suc k) statement (run_before unannotated (log_of state.entries) t k (as_of unannotated spans))
 
     -- over the versions before the transaction's own
@@ -162,7 +165,7 @@ module _ (state : State Monomial) (reached : IsReached monomials parameters stat
     bound = reads-within monomials state reached.history once t (version_of t state.entries) refl
 
     -- the rows are those that the statement changed, in another order
-    moved-rows : SameBag found-rows (map (reannotated forgotten) changed)
+    pub moved-rows : SameBag found-rows (map (reannotated forgotten) changed)
     moved-rows =
         let run-rows : Database (Unit {0}) = run_before unannotated (log_of state.entries) t k (forgetting state).committed in
         let before : Database Monomial = run_before monomials (log_of state.entries) t k state.committed in
@@ -173,21 +176,21 @@ module _ (state : State Monomial) (reached : IsReached monomials parameters stat
         (same_from _ _ (changed-reannotated monomials unannotated forgotten (forgotten_keeps monomials) t (suc k) before run-rows same statement)))
 
     -- what the transaction reads after the statement
-    left : state.views t (suc k) ≡ step monomials t (suc k) statement read-rows
+    pub left : state.views t (suc k) ≡ step monomials t (suc k) statement read-rows
     left =
         reached.views t (suc k) is.some is.known (omega arith)
         ∙ ap (λ (own : Option Statement). stepped monomials t (suc k) own read-rows) here
 
-    different-read : (table : ℕ) → HaveDifferentIdentities (read-rows table)
+    pub different-read : (table : ℕ) → HaveDifferentIdentities (read-rows table)
     different-read = different-before monomials state reached.history t bound.0 (rises t) bound.1 k within
 
-    different-left : (table : ℕ) → HaveDifferentIdentities (step monomials t (suc k) statement read-rows table)
+    pub different-left : (table : ℕ) → HaveDifferentIdentities (step monomials t (suc k) statement read-rows table)
     different-left table =
         subst (λ (own : Option Statement). HaveDifferentIdentities (stepped monomials t (suc k) own read-rows table)) here
         (different-after monomials state reached.history t bound.0 (rises t) bound.1 (suc k) (omega arith) table)
 
     -- the statement made no row before it ran
-    fresh-read : (table : ℕ) → IsFresh monomials t (suc k) (read-rows table)
+    pub fresh-read : (table : ℕ) → IsFresh monomials t (suc k) (read-rows table)
     fresh-read table =
         each_weaker (λ row. is_made_by t (suc k) row.identity ≡ false) (λ row. identity_transaction row.identity ≡ t → identity_statement row.identity ≤ k) (λ row earlier. not-made row.identity earlier (identity_transaction row.identity == t) refl) (read-rows table)
         (own-before monomials state reached.history t bound.0 (rises t) bound.1 k within table)
@@ -196,7 +199,7 @@ module _ (state : State Monomial) (reached : IsReached monomials parameters stat
         not-made id earlier false own = refl
         not-made id earlier true own = let most = earlier (eqb-true (identity_transaction id) t own) in eq_not (identity_statement id) (suc k) (λ same. omega (arith, most, same))
 
-    different-rows : HaveDifferentIdentities changed
+    pub different-rows : HaveDifferentIdentities changed
     different-rows = changed-different monomials t (suc k) statement read-rows different-read different-left
 
     changes-are : (catalogue : List Table) (place : Option ℕ) → changes_of catalogue place statement (Ok found-rows) ≡ changes_of catalogue place statement (Ok changed)

@@ -190,7 +190,7 @@ module _ (entries : List Entry) (is : IsExplained entries) (readable : AreReadab
             laws.gives tables (table_spans stored) program are.typed typed
             ∙ ap sql_rows
             (ap (λ (env : PlainEnvironment). program_meaning env program) (sym (env-encoded stored))
-            ∙ merged_means entries select is.fit fits point known false (held_by stored) (record {
+            ∙ merged_means entries select is.fit fits point false known (held_by stored) (record {
               wide = λ version table. held-wide (width_of tables table) version (table_spans stored table) (all-wide tables stored are.tables are.typed table);
               unmarked = λ version table. held-unmarked (spans_at version (table_spans stored table));
             })
@@ -211,8 +211,8 @@ module _ (entries : List Entry) (is : IsExplained entries) (readable : AreReadab
       )
 
   question_asks : (own : y.Question) → question_is_valid own ≡ true → AsksQuestion sql_lines entries own
-  question_asks (y.ask y.rows point query) valid = let parts = valid-parts y.rows point query valid in state_asks point query parts.0 parts.1
-  question_asks (y.ask (y.explain false) point query) valid = let parts = valid-parts (y.explain false) point query valid in state_asks point query parts.0 parts.1
+  question_asks (y.ask (y.of_state y.rows point) query) valid = let parts = valid-parts (y.of_state y.rows point) query valid in state_asks point query parts.0 parts.1
+  question_asks (y.ask (y.of_state (y.explain false) point) query) valid = let parts = valid-parts (y.of_state (y.explain false) point) query valid in state_asks point query parts.0 parts.1
   question_asks own valid = tt
 
   line_asks : (text : List ℕ) → IfOk (question_of text) (AsksQuestion sql_lines entries)

@@ -36,10 +36,10 @@ all-kept [] = refl
 all-kept (row ∷ rows) = ap (λ (rest : List Row). row ∷ rest) (all-kept rows)
 
 -- a row that a statement changed, with its sides
-abbrev shown : Statement → Row → Change
+abbrev pub shown : Statement → Row → Change
 shown statement row = (row.identity, (before_of statement row.cells, after_of statement row.cells))
 
-changed-is : (t k : ℕ) (statement : Statement) (db : Database (Unit {0})) → changed_by t k statement db ≡ map (shown statement) (changed_rows unannotated t k statement db)
+pub changed-is : (t k : ℕ) (statement : Statement) (db : Database (Unit {0})) → changed_by t k statement db ≡ map (shown statement) (changed_rows unannotated t k statement db)
 changed-is t k (insert table rows) db = refl
 changed-is t k (insert_select table select) db = refl
 changed-is t k (update table sets c) db = ap (map (shown (update table sets c))) (sym (all-kept (filter (λ (row : Row). passes c row.cells) (db table))))

@@ -18,6 +18,7 @@ use Rattle.gp_algebra.proofs.StepBags.{SameTables}
 use Rattle.gp_algebra.specs.Answers.{answer}
 use Rattle.gp_algebra.specs.Effects.{Written, given_from, made, written_in}
 use Rattle.gp_algebra.specs.Statements.{Statement, delete, insert, insert_select, read, update}
+use Rattle.gp_machine.proofs.RunBags.{run_stop_same}
 use Rattle.gp_machine.proofs.ActiveLemmas.{IsOver, active_clean, active_kept, refreshed_view, step_view}
 use Rattle.gp_machine.proofs.AnyLemmas.{saw_held, saw_stops}
 use Rattle.gp_machine.proofs.Distinct.{differ_append, differ_filter, differ_map, each_all, each_filter, each_weaker, none_any}
@@ -93,7 +94,7 @@ module _ {M : Type 0} (domain : Annotations M) (t k : ℕ) where
   written-once table rows different =
       differ_map same_row same_written (λ (row : Annotated M). record { table = table; identity = row.identity }) (λ row other. ap (λ b. b && same_identity row.identity other.identity) (eq_itself table)) rows different
 
-  wrote-once : (statement : Option Statement) (db : Database M) → ((table : ℕ) → HaveDifferentIdentities (db table)) → AreDistinct same_written (wrote_by domain t k statement db)
+  pub wrote-once : (statement : Option Statement) (db : Database M) → ((table : ℕ) → HaveDifferentIdentities (db table)) → AreDistinct same_written (wrote_by domain t k statement db)
   wrote-once None db different = tt
   wrote-once (Some (insert table rows)) db different = written-once table (given_from domain t k 1 rows) (given_unique domain t k 1 rows)
   wrote-once (Some (insert_select table select)) db different = written-once table (map (made domain t k) (answer domain select db)) (made_unique domain t k select db different)
@@ -325,6 +326,12 @@ module _ (parameters : Parameters) (state : State (Unit {0})) (reached : IsReach
 
   version-same : (version : ℕ) → version ≤ versions_in state.entries → SameTables (as_of unannotated spans version) (state.committed version)
   version-same version within = versions_held unannotated (log_of state.entries) state.committed state.written reached.history spans are version within
+
+  -- nor does its run over the versions of the history
+  pub runs-none : (k : ℕ) → k ≤ statement_count t state.entries → run_stop unannotated parameters (log_of state.entries) t k state.committed ≡ None
+  runs-none k within =
+      sym (run_stop_same unannotated parameters (log_of state.entries) t k (as_of unannotated spans) state.committed (λ j upto. version-same (statement_version t j state.entries) (versions_le t j state.entries)))
+      ∙ passes-none k within
 
   -- before a statement it read what its run over the versions of the history gives
   pub started : (once : MakesOnce state.entries) (k : ℕ) → k < statement_count t state.entries

@@ -18,8 +18,8 @@ use Rattle.gp_machine.specs.Entries.{Entry}
 use Rattle.gp_machine.specs.State.{State}
 use Rattle.gp_log.specs.LogFacts.{tables_in}
 use Rattle.gp_log.specs.Logs.{log_view}
-use Rattle.gp_reenact.specs.declared.error.ReenactStop.{ReenactStop}
-use Rattle.gp_reenact.specs.declared.error.ReenactStop.TheVariants as stop
+use Rattle.gp_base.specs.declared.stop.Stop.{Stop}
+use Rattle.gp_base.specs.declared.stop.Stop.TheVariants as stop
 use Rattle.gp_reenact.specs.Reenacting.{spans_of}
 use Rattle.gp_versions.specs.Spans.{Versions}
 use Rattle.gp_dump.specs.declared.dump.Dump as code
@@ -63,7 +63,7 @@ module _ (dump : code.Dump) (versions : List Versions) (same : versions ≡ dump
   abbrev entries : List Entry
   entries = log_view dump.log.entries
 
-  pub moved : {X : Type 0} (view : X → List (List Cell × semiring.Element)) (found : Result X ReenactStop) → Gives view found (found_in semiring kept entries (tables_in entries) (spans_of versions) point select)
+  pub moved : {X : Type 0} (view : X → List (List Cell × semiring.Element)) (found : Result X Stop) → Gives view found (found_in semiring kept entries (tables_in entries) (spans_of versions) point select)
       → Gives view found (found_in semiring rules entries (tables_in entries) (table_spans (tables_view dump.versions)) point select)
   moved view found gives =
       subst (λ (own : List Rule × Option ℕ). Gives view found (found_in semiring own entries (tables_in entries) (table_spans (tables_view dump.versions)) point select)) by

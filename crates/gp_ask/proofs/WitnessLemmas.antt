@@ -85,7 +85,7 @@ valued_is named.Witness (rule ∷ rules) None dump point select = refl
 valued_is named.Witness (rule ∷ rules) (Some n) dump point select = refl
 
 pub asked_values : (name : SemiringName) (rules : List y.Rule) (other : Option ℕ) (dump : Dump) (point : y.Point) (query : y.Query)
-    → dump_query dump (dump_values (operations_of name) name (rules_of rules other) dump point) point query ≡ computed_answer dump (y.ask (y.value name rules other) point query)
+    → dump_query dump (dump_values (operations_of name) name (rules_of rules other) dump point) point query ≡ computed_answer dump (y.ask (y.of_state (y.value name rules other) point) query)
 asked_values name rules other dump point query =
     query-same (dump_values (operations_of name) name (rules_of rules other) dump point) (dump_valued name rules other dump point) (valued_is name rules other dump point)
     (log_refusal dump.entries point) (checked_query (tables_in dump.entries) query)

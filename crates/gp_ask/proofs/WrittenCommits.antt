@@ -233,7 +233,7 @@ module _ {M : Type 0} where
   picked all id cells (row ∷ rows) each (inl is) = ap (λ (own : Identity). cells_in own all) (sym is.0) ∙ each.0 ∙ ap Some is.1
   picked all id cells (row ∷ rows) each (inr has) = picked all id cells rows each.1 has
 
-  cells-are : (rows : List (Annotated M)) (id : Identity) (cells : Option (List Cell)) → HaveDifferentIdentities rows → AreCells rows id cells → cells_in id rows ≡ cells
+  pub cells-are : (rows : List (Annotated M)) (id : Identity) (cells : Option (List Cell)) → HaveDifferentIdentities rows → AreCells rows id cells → cells_in id rows ≡ cells
   cells-are rows id (Some cells) different are = picked rows id cells rows (own-cells rows different) are
   cells-are rows id None different are = by (cells_in id rows) refl
     where

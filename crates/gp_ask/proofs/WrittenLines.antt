@@ -1,5 +1,5 @@
 -- The lines of the rows that a statement wrote: those of the rows that it changed, with their cells in what it read and in what it left.
-use Rattle.std.proofs.Common.{◌≡◌, ◌≢◌, ℕ, suc, Bool, true, false, cond, List, [], ◌∷◌, ◌++◌, map, Some, None, Ok, refl, sym, ap, ◌∙◌}
+use Rattle.std.proofs.Common.{◌≡◌, ℕ, suc, Bool, true, false, cond, List, [], ◌∷◌, ◌++◌, map, Some, None, Ok, refl, sym, ap, ◌∙◌}
 use Rattle.std.specs.Prelude.{◌||◌, ◌==◌, not}
 use Rattle.std.specs.List.{AllByRecursion, filter, flat_map}
 use Rattle.std.specs.Cmp.{nat_cmp_total, tied_itself}
@@ -118,9 +118,9 @@ module _ {M : Type 0} (domain : Annotations M) (t k : ℕ) where
   -- ---- their cells before and after
 
   -- a row that was changed is so in both databases
-  record IsShown (statement : Statement) (before after : List (Annotated M)) (row : Annotated M) : Type 0 where
-    older : cells_in row.identity before ≡ before_of statement row.cells
-    newer : cells_in row.identity after ≡ after_of statement row.cells
+  pub record IsShown (statement : Statement) (before after : List (Annotated M)) (row : Annotated M) : Type 0 where
+    pub older : cells_in row.identity before ≡ before_of statement row.cells
+    pub newer : cells_in row.identity after ≡ after_of statement row.cells
 
   not-before : (row : Annotated M) (rows : List (Annotated M)) → is_made_by t k row.identity ≡ true → IsFresh rows → cells_in row.identity rows ≡ None
   not-before row rows own fresh = none-there row.identity rows (none_any (λ other. same_identity other.identity row.identity) rows (each_weaker _ _ (λ other old. apart other old (same_identity other.identity row.identity) refl) rows fresh))
@@ -141,7 +141,7 @@ module _ {M : Type 0} (domain : Annotations M) (t k : ℕ) where
   in-table : (table : ℕ) (rows others : List (Annotated M)) (id : Identity) → cells_in id (cond (table == table) rows others) ≡ cells_in id rows
   in-table table rows others id = ap (λ b. cells_in id (cond b rows others)) (eq_itself table)
 
-  all-shown : (statement : Statement) (db : Database M) → IsFresh (db (target_of statement)) → HaveDifferentIdentities (db (target_of statement)) → HaveDifferentIdentities (step domain t k statement db (target_of statement))
+  pub all-shown : (statement : Statement) (db : Database M) → IsFresh (db (target_of statement)) → HaveDifferentIdentities (db (target_of statement)) → HaveDifferentIdentities (step domain t k statement db (target_of statement))
       → AllByRecursion (IsShown statement (db (target_of statement)) (step domain t k statement db (target_of statement))) (changed_rows domain t k statement db)
   all-shown (insert table rows) db fresh different after =
       each_filter _ (λ row. cells_in row.identity (step domain t k (insert table rows) db table) ≡ Some row.cells) (λ row. is_made_by t k row.identity)

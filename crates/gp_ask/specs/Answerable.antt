@@ -18,11 +18,12 @@ has_few_items query = not (some_above MAX_FROM (query_shape query).from)
 
 -- the query of a question, if it has one, keeps the limit of FROM
 abbrev pub keeps_from : y.Question → Bool
-keeps_from (y.saw t k query) = has_few_items query
+keeps_from (y.when query) = has_few_items query
 keeps_from (y.diff first second query) = has_few_items query
-keeps_from (y.causes kept query) = has_few_items query
-keeps_from (y.ask how state query) = has_few_items query
-keeps_from (y.what_if change how state query) = has_few_items query
+keeps_from (y.causes subject query) = has_few_items query
+keeps_from (y.ask subject query) = has_few_items query
+keeps_from (y.what_if changes subject query) = has_few_items query
+keeps_from (y.explain_saw t k query) = has_few_items query
 keeps_from question = true
 
 -- its query and the commands of its changes are valid, if it has them; the query keeps the limit of FROM, and the commands are statements

@@ -16,7 +16,6 @@ use Rattle.gp_grammar.specs.Syntax as y
 use Rattle.gp_versions.specs.declared.span.Span.{Span}
 use Rattle.gp_algebra.specs.Answers.{Element, answer, cells_of}
 use Rattle.gp_algebra.specs.Statements.{Select}
-use Rattle.gp_check.specs.Checking.{checked_query}
 use Rattle.gp_machine.specs.Annotating.{annotated_versions}
 use Rattle.gp_machine.specs.Entries.{Entry}
 use Rattle.gp_machine.specs.Points.{at_point, held_at}
@@ -109,9 +108,6 @@ module _ (programs : Programs) where
       (at_point monomials dump.entries point (annotated_versions monomials dump.entries (table_spans dump.tables)))
       (history_refusal monomials parameters agree (tables_in dump.entries) dump.entries (table_spans dump.tables) point))
 
-  abbrev pub ask_to : Dump → y.How → y.Point → y.Query → Answered
-  ask_to dump how point query = query_answer (dump_answer dump how point) (log_refusal dump.entries point) (checked_query (tables_in dump.entries) query)
-
   -- ---- the answer that a history held
 
   -- The rows that a commit published, or that a transaction saw after one of its statements, their provenance, the elements by which they have values, and
@@ -124,6 +120,3 @@ module _ (programs : Programs) where
       valued_answer name rules other (given (log_refusal state.entries point) (answer monomials select (held_at state point)))
   history_answer state (y.without patterns) point select =
       of_elements (remaining_answer (has_left_out (map rule_of patterns)) select (held_at state point) (log_refusal state.entries point))
-
-  abbrev pub ask_held : State Monomial → y.How → y.Point → y.Query → Answered
-  ask_held state how point query = query_answer (history_answer state how point) (log_refusal state.entries point) (checked_query state.catalogue query)

@@ -55,6 +55,6 @@ module _ (gives : PlainProgram → PlainEnvironment → Given → Type 0) where
 
   -- a question about rows
   abbrev pub AnswersBy : Dump → y.Question → Answered → Type 0
-  AnswersBy dump (y.ask y.rows point query) answered =
+  AnswersBy dump (y.ask (y.of_state y.rows point) query) answered =
       AnswersQuery (tables_in dump.entries) (transaction_at point) (merged_at false dump.entries point) (past_of dump) (log_refusal dump.entries point) (checked_query (tables_in dump.entries) query) answered
   AnswersBy dump question answered = Unit {0}

@@ -1,4 +1,4 @@
--- Machinery: the answer to a question from a dump, as it is computed: what would be with a change is answered from the dump of the history that would have
+-- Machinery: the answer to a question from a dump, as it is computed: what would be with changes is answered from the dump of the history that would have
 -- been. It is `answer_to` of `Answers` by the law `dumps_answer_as_changed_histories`.
 use Rattle.std.specs.Prelude.{List}
 use Rattle.gp_grammar.specs.Syntax as y
@@ -9,17 +9,18 @@ use Rattle.gp_dump.specs.Dumps.{Dump}
 use Rattle.gp_ask.specs.declared.answered.Answered.{Answered}
 use Rattle.gp_ask.specs.declared.format.Format.{Format}
 use Rattle.gp_ask.specs.declared.format.Format.TheVariants.{Sql}
-use Rattle.gp_ask.specs.Printed.{answer_to, ask_to, changed_answer, sql_answer_to}
+use Rattle.gp_ask.specs.Printed.{answer_to, changed_answer, query_to, sql_answer_to}
 use Rattle.gp_ask.specs.Differences.{causes_answer, diff_answer}
 use Rattle.gp_ask.specs.Hypothetical.{replayed_dump}
+use Rattle.gp_ask.specs.Made.{unmade_refusal}
 
-abbrev pub what_if_answer : List Entry → y.LogChange → y.How → y.Point → y.Query → Answered
-what_if_answer entries change how point query = changed_answer (λ own. ask_to (replayed_dump own)) (changed_log parameters entries change) how point query
+abbrev pub what_if_answer : List Entry → List y.LogChange → y.Subject → y.Query → Answered
+what_if_answer entries changes subject query = changed_answer (λ own. query_to (replayed_dump own)) (changed_log parameters entries changes) subject query
 
 abbrev pub computed_answer : Dump → y.Question → Answered
-computed_answer dump (y.what_if change how point query) = what_if_answer dump.entries change how point query
-computed_answer dump (y.diff first second query) = diff_answer (ask_to dump) (what_if_answer dump.entries) first second query
-computed_answer dump (y.causes kept query) = causes_answer (ask_to dump) (what_if_answer dump.entries) dump.entries kept query
+computed_answer dump (y.what_if changes subject query) = what_if_answer dump.entries changes subject query
+computed_answer dump (y.diff first second query) = diff_answer (query_to dump) (what_if_answer dump.entries) (unmade_refusal dump) dump.entries first second query
+computed_answer dump (y.causes subject query) = causes_answer (query_to dump) (what_if_answer dump.entries) (unmade_refusal dump) dump.entries subject query
 computed_answer dump question = answer_to dump question
 
 -- the answers that a format is given

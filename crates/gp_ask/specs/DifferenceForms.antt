@@ -38,5 +38,5 @@ abbrev pub causes_of : (ℕ × ℕ → Answered) → List (ℕ × ℕ) → Resul
 causes_of without statements rows = or_refused (λ own. Causes (all_cause_lines without statements own)) rows
 
 -- the answer without a statement
-abbrev pub without_in : (y.LogChange → y.How → y.Point → y.Query → Answered) → y.Kept → y.Query → ℕ × ℕ → Answered
-without_in changes kept query own = changes (y.drop own.0 own.1) kept.how kept.state query
+abbrev pub without_in : (List y.LogChange → y.Subject → y.Query → Answered) → y.Subject → y.Query → ℕ × ℕ → Answered
+without_in changes subject query own = changes (y.drop own.0 own.1 ∷ []) subject query

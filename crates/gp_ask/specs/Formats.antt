@@ -24,24 +24,24 @@ use Rattle.gp_ask.specs.Titles.{difference_titles, query_names, row_titles}
 
 -- a plain AS OF or REENACT
 abbrev pub asks_rows : y.Question → Bool
-asks_rows (y.ask y.rows point query) = true
+asks_rows (y.ask (y.of_state y.rows point) query) = true
 asks_rows question = false
 
 -- the answer to a question that is exported, given the answers to all
 abbrev pub exported : (y.Question → Answered) → y.Question → Answered
 exported answers question = if asks_rows question then answers question else Refused E30
 
--- rows are asked for, of any state, or what is left of them
-abbrev pub gives_rows : y.How → Bool
-gives_rows y.rows = true
-gives_rows (y.without patterns) = true
-gives_rows how = false
+-- rows are asked for, of any state, what is left of them, or what a transaction saw
+abbrev pub gives_rows : y.Subject → Bool
+gives_rows (y.of_state y.rows point) = true
+gives_rows (y.of_state (y.without patterns) point) = true
+gives_rows (y.saw t k) = true
+gives_rows subject = false
 
 -- the query of a question that asks for rows, or for their difference
 abbrev pub rows_query : y.Question → Option y.Query
-rows_query (y.ask how point query) = if gives_rows how then Some query else None
-rows_query (y.what_if change how point query) = if gives_rows how then Some query else None
-rows_query (y.saw t k query) = Some query
+rows_query (y.ask subject query) = if gives_rows subject then Some query else None
+rows_query (y.what_if changes subject query) = if gives_rows subject then Some query else None
 rows_query (y.diff first second query) = Some query
 rows_query question = None
 
@@ -63,7 +63,7 @@ are_asked how = false
 
 -- the answer to a question in SQL is the query that it explains
 abbrev pub in_sql : (y.Question → Answered) → y.Question → Answered
-in_sql answers (y.ask how point query) = if are_asked how then answers (y.ask (y.explain false) point query) else Refused E30
+in_sql answers (y.ask (y.of_state how point) query) = if are_asked how then answers (y.ask (y.of_state (y.explain false) point) query) else Refused E30
 in_sql answers question = Refused E30
 
 -- the answers to questions in a format

@@ -1,7 +1,8 @@
--- Part of the statement: the answer to a question about the history that would have been. A statement of a committed transaction is dropped, replaced or
--- added, and the commits of the changed log are made again. Such a question is refused by the first that applies: the change; then, on the changed log, what
--- refuses the question whatever the rows are: its version, transaction or statement is not in the log, the check of its query, a number of its rules that is not
--- in the semiring; then, unless the query is explained, the first commit that cannot be made again; then the number of its rows.
+-- Part of the statement: the answer to a question about the history that would have been. Statements of committed transactions are dropped, replaced and
+-- added, and the commits of the changed log are made again. Such a question is refused by the first that applies: the first change that is; then, on the changed
+-- log, what refuses the question whatever the rows are: its version, transaction or statement is not in the log, the check of its query, a number of its rules that
+-- is not in the semiring; then, unless the query is explained, the first commit that cannot be made again; then what a transaction that did not commit would pass,
+-- if it is asked what it saw; then the number of its rows.
 use Rattle.std.specs.Prelude.{List, [], length, map, Option, None}
 use Rattle.std.specs.Option.{option_map, option_or}
 use Rattle.std.specs.Result.{result_err}
@@ -15,13 +16,14 @@ use Rattle.gp_log.specs.Parameters.{parameters}
 use Rattle.gp_log.specs.LogFacts.{tables_in}
 use Rattle.gp_machine.specs.Entries.{Entry, committer_of, log_of, versions_in}
 use Rattle.gp_machine.specs.Event.{name_at}
-use Rattle.gp_machine.specs.Questions.{log_refusal, stop_refusal}
+use Rattle.gp_machine.specs.Questions.{stop_refusal}
 use Rattle.gp_machine.specs.Replayed.{replayed_state}
 use Rattle.gp_machine.specs.Replaying as made
 use Rattle.gp_whatif.specs.Changed.{changed_log}
 use Rattle.gp_dump.specs.Dumps.{Dump, dump_of}
 use Rattle.gp_ask.specs.declared.answered.Answered.{Answered}
-use Rattle.gp_ask.specs.Asking.{Programs, ask_to, ask_held}
+use Rattle.gp_ask.specs.Asking.{Programs}
+use Rattle.gp_ask.specs.Subjects.{query_to, query_held, subject_refusal}
 use Rattle.gp_ask.specs.Values.{or_refused, outside_refusal, rule_of, unless_refused}
 
 -- the dump of the history that the commits of a log, made again, lead to
@@ -30,14 +32,14 @@ replayed_dump entries = dump_of (replayed_state unannotated (tables_in entries) 
 
 -- ---- refusals
 
-abbrev pub rules_refusal : y.How → Option Refusal
-rules_refusal (y.value name rules other) = outside_refusal name (map rule_of rules) other
-rules_refusal how = None
+abbrev pub rules_refusal : y.Subject → Option Refusal
+rules_refusal (y.of_state (y.value name rules other) point) = outside_refusal name (map rule_of rules) other
+rules_refusal subject = None
 
 -- what refuses a question on a log, whatever the rows are
-abbrev pub asking_refusal : List Entry → y.How → y.Point → y.Query → Option Refusal
-asking_refusal entries how point query =
-    option_or (log_refusal entries point) (option_or (result_err (checked_query (tables_in entries) query)) (rules_refusal how))
+abbrev pub asking_refusal : List Entry → y.Subject → y.Query → Option Refusal
+asking_refusal entries subject query =
+    option_or (subject_refusal entries subject) (option_or (result_err (checked_query (tables_in entries) query)) (rules_refusal subject))
 
 -- why a commit of a log cannot be made again; one that is lost, by its transaction, the one that it would lose to, the table and the identity
 abbrev pub replay_refusal : List Entry → made.ReplayStop → Refusal
@@ -52,13 +54,13 @@ remaking_refusal entries = option_map (replay_refusal entries) (made.replay_stop
 -- ---- answers
 
 module _ (programs : Programs) where
-  -- A question about the states of a log whose commits are made again, given the answer over these. An explained query needs the log alone.
-  abbrev pub remade_answer : (y.How → y.Point → y.Query → Answered) → List Entry → y.How → y.Point → y.Query → Answered
-  remade_answer answer entries (y.explain prov) point query = ask_to programs (record { entries = entries; tables = [] }) (y.explain prov) point query
-  remade_answer answer entries how point query =
-      unless_refused (asking_refusal entries how point query) (unless_refused (remaking_refusal entries) (answer how point query))
+  -- A question about a log whose commits are made again, given the answer over these. An explained query needs the log alone.
+  abbrev pub remade_answer : (y.Subject → y.Query → Answered) → List Entry → y.Subject → y.Query → Answered
+  remade_answer answer entries (y.of_state (y.explain prov) point) query = query_to programs (record { entries = entries; tables = [] }) (y.of_state (y.explain prov) point) query
+  remade_answer answer entries subject query =
+      unless_refused (asking_refusal entries subject query) (unless_refused (remaking_refusal entries) (answer subject query))
 
-  -- by the changed log, or the refusal of the change: what the history held that would have been, its rows and their provenance
-  abbrev pub what_if_held : List Entry → y.LogChange → y.How → y.Point → y.Query → Answered
-  what_if_held entries change how point query =
-      or_refused (λ own. remade_answer (ask_held programs (replayed_state monomials (tables_in own) own)) own how point query) (changed_log parameters entries change)
+  -- by the changed log, or the refusal of a change: what the history held that would have been, its rows and their provenance
+  abbrev pub what_if_held : List Entry → List y.LogChange → y.Subject → y.Query → Answered
+  what_if_held entries changes subject query =
+      or_refused (λ own. remade_answer (query_held programs (replayed_state monomials (tables_in own) own)) own subject query) (changed_log parameters entries changes)

@@ -1,5 +1,5 @@
 -- Part of the statement: the answers to a file of questions. Its lines are those of a script: blank lines and comments get no answer, but are counted.
-use Rattle.std.specs.Prelude.{ℕ, Bool, true, false, List, Result, Ok, Err}
+use Rattle.std.specs.Prelude.{ℕ, Bool, true, false, List, Some, Result, Ok, Err}
 use Rattle.std.specs.List.{flat_map, list_any}
 use Rattle.gp_base.specs.declared.table.Table.{Table}
 use Rattle.gp_grammar.specs.Limits.{question_shape}
@@ -9,7 +9,7 @@ use Rattle.gp_grammar.specs.Syntax as y
 use Rattle.gp_syntax.specs.Lines.{script_lines}
 use Rattle.gp_syntax.specs.Refusals.{refusal_of_fault}
 use Rattle.gp_ask.specs.declared.answered.Answered.{Answered}
-use Rattle.gp_ask.specs.declared.answered.Answered.TheVariants.{Refused}
+use Rattle.gp_ask.specs.declared.answered.Answered.TheVariants.{Checked, Refused}
 use Rattle.gp_ask.specs.declared.format.Format.{Format}
 use Rattle.gp_ask.specs.Formats.{answers_in, text_in}
 
@@ -21,8 +21,10 @@ ReadQuestion = ℕ × Result y.Question Fault
 abbrev pub AreQuestions : List ℕ → List ReadQuestion → Type 0
 AreQuestions file questions = AreReadAs IsQuestion question_shape (script_lines file) questions
 
+-- a refusal, or a dump that is not that of a history: the exit status tells of both
 abbrev pub is_refused : Answered → Bool
 is_refused (Refused refusal) = true
+is_refused (Checked (Some line)) = true
 is_refused other = false
 
 -- A line that is read as this; a fault in its text refuses it. The answers are a parameter: those of a dump, or those that a history held.

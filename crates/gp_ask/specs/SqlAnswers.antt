@@ -1,6 +1,6 @@
--- Part of the statement: what a text of SQL says that answers a question. It is the text of one query of SQL, which is spelled. Over any tables of row versions whose rows have cells of their
--- columns' types, whatever fills them, the query gives the rows of the question's query over the state that the logged statements lead to from the versions that
--- these rows hold.
+-- Part of the statement: what a text of SQL says that answers a question. It is the text of one query of SQL, which is spelled. Over any tables of row versions
+-- whose rows have cells of their columns' types, whatever fills them, the query gives the rows of the question's query over the state that the logged
+-- statements lead to from the versions that these rows hold.
 use Rattle.std.specs.Prelude.{◌≡◌, ℕ, ◌^◌, ◌<◌, false, true, List, length, IfOk}
 use Rattle.std.specs.List.{AllByRecursion}
 use Rattle.gp_base.specs.Annotated.{Environment, monomials}
@@ -54,8 +54,8 @@ module _ (programs : Programs) where
       (λ (select : Select). LinesAsk entries point select (programs entries false point select))
 
   abbrev pub AsksQuestion : List Entry → y.Question → Type 0
-  AsksQuestion entries (y.ask y.rows point query) = AsksState entries point query
-  AsksQuestion entries (y.ask (y.explain false) point query) = AsksState entries point query
+  AsksQuestion entries (y.ask (y.of_state y.rows point) query) = AsksState entries point query
+  AsksQuestion entries (y.ask (y.of_state (y.explain false) point) query) = AsksState entries point query
   AsksQuestion entries question = Unit {0}
 
   -- each line of a file of questions that is read as one that SQL asks

@@ -12,7 +12,7 @@ use Rattle.gp_base.specs.Writing.{joined_texts}
 use Rattle.gp_semiring.specs.declared.listed.Listed as l
 use Rattle.gp_ask.specs.declared.answered.Answered.{Answered}
 use Rattle.gp_ask.specs.declared.answered.Valued.{Valued}
-use Rattle.gp_ask.specs.declared.answered.Answered.TheVariants.{Rows, Listed, Values, Log, Versions, Program, Transactions, Changes, Diff, Causes, Refused, Checked, Sheet}
+use Rattle.gp_ask.specs.declared.answered.Answered.TheVariants.{Rows, Listed, Values, Log, Versions, Program, Transactions, Changes, Conflicts, History, When, Diff, Causes, Cycle, Refused, Checked, Serial, Sheet, Undecided}
 
 -- a line of an answer
 abbrev pub listed_line : List ℕ → List ℕ
@@ -51,7 +51,13 @@ answer_text number (Versions texts) = listed_text number (codes "versions") text
 answer_text number (Program texts) = listed_text number (codes "program") texts
 answer_text number (Transactions texts) = listed_text number (codes "transactions") texts
 answer_text number (Changes texts) = listed_text number (codes "changes") texts
+answer_text number (Conflicts texts) = listed_text number (codes "conflicts") texts
+answer_text number (History texts) = listed_text number (codes "history") texts
+answer_text number (When texts) = listed_text number (codes "when") texts
 answer_text number (Diff rows) = listed_text number (codes "diff") (map signed_text rows)
 answer_text number (Causes texts) = listed_text number (codes "causes") texts
+answer_text number (Serial texts) = listed_text number (codes "serial") texts
+answer_text number (Cycle texts) = listed_text number (codes "cycle") texts
+answer_text number Undecided = listed_text number (codes "undecided") []
 answer_text number (Checked line) = numbered number (checked_text line)
 answer_text number (Refused refusal) = numbered number (refused_text refusal)

@@ -11,7 +11,7 @@ use Rattle.gp_log.specs.declared.entry.Entry as code
 use Rattle.gp_log.specs.declared.entry.What.{What}
 use Rattle.gp_log.specs.declared.entry.What.TheVariants as what
 use Rattle.gp_machine.specs.Entries.{Entry, version_of}
-use Rattle.gp_syntax.specs.Views.{kept_view, query_view}
+use Rattle.gp_syntax.specs.Views.{query_view, subject_view}
 use Rattle.gp_ask.specs.declared.causes.Asked.{Asked}
 use Rattle.gp_ask.specs.declared.causes.Write.{Write}
 use Rattle.gp_ask.specs.Answerable.{has_few_items}
@@ -31,7 +31,7 @@ abbrev pub write_of : List Entry → ℕ → ℕ → Statement → Option Write
 write_of entries t k statement = if writes statement then made_by t k (version_of t entries) else None
 
 abbrev pub write_in : List Entry → ℕ → What → Option Write
-write_in entries t (what.Statement k command stmt) = write_of entries t k (statement_view stmt)
+write_in entries t (what.Statement k command stmt) = write_of entries t k (statement_view stmt.value)
 write_in entries t other = None
 
 -- the statement of an entry, if it writes and its transaction committed
@@ -58,7 +58,7 @@ listed_line (Some line) = line ∷ []
 abbrev pub IsLine : Asked → Write → Option (List ℕ) → Type 0
 IsLine asked own line =
     listed_line line
-    ≡ cause_of asked.rows.now (write_view own) (rows_in (without_in (what_if_answer (dump_view asked.dump.now).entries) (kept_view asked.kept.now) (query_view asked.query.now) (write_view own)))
+    ≡ cause_of asked.rows.now (write_view own) (rows_in (without_in (what_if_answer (dump_view asked.dump.now).entries) (subject_view asked.subject.now) (query_view asked.query.now) (write_view own)))
 
 -- there is a place for each statement, and the lines of those of the first versions, this many, are put there
 pub record ArePut (asked : Asked) (writes : List Write) (versions : ℕ) (lines : List (Option (List ℕ))) : Type 0 where

@@ -44,10 +44,22 @@ pub enum Answered {
     Transactions(Sequence<Text>),
     /// The lines of the rows that were changed, by table and then by identity.
     Changes(Sequence<Text>),
+    /// The lines of the rows on which a transaction met another one, by table and then by identity.
+    Conflicts(Sequence<Text>),
+    /// The lines of what became of rows, by identity, and of one identity in the order in which it was changed.
+    History(Sequence<Text>),
+    /// The lines of the intervals in which rows were in an answer, in row order.
+    When(Sequence<Text>),
     /// The rows that are more often in one of two answers, in row order, each behind its sign, a text.
     Diff(Sequence<Row>),
     /// The lines of the statements that an answer depends on, in the order of their lines.
     Causes(Sequence<Text>),
+    /// The transactions that committed, in an order in which they run one after another and do what they did.
+    Serial(Sequence<Text>),
+    /// The lines of a cycle of transactions each of which comes before the next one.
+    Cycle(Sequence<Text>),
+    /// The transactions have no such cycle, and do something else one after another in the order that was found.
+    Undecided,
     /// The number of the first line of the dump that differs, or None if it is the dump of a history.
     Checked(Option<u64>),
     /// The question was refused.
@@ -57,10 +69,10 @@ pub enum Answered {
 impl Answered {
     ghost use Rattle.gp_ask.specs.Questions.{is_refused};
 
-    /// Whether the question was refused.
+    /// Whether the question was refused, or the dump is found not to be that of a history.
     pub fn is_refused(&self) -> bool
         ensures { result ≡ is_refused self.now }
     {
-        matches!(self, Answered::Refused(_))
+        matches!(self, Answered::Refused(_) | Answered::Checked(Some(_)))
     }
 }

@@ -2,7 +2,7 @@
 
 ghost use Rattle.std.specs.Prelude.{◌≡◌, true, IfOk};
 ghost use Rattle.gp_grammar.specs.Syntax as y;
-ghost use Rattle.gp_syntax.specs.Views.{how_view, query_view, question_view, point_view};
+ghost use Rattle.gp_syntax.specs.Views.{query_view, question_view, subject_view};
 ghost use Rattle.gp_check.specs.Valid.{query_is_valid, tables_are_valid};
 ghost use Rattle.gp_log.specs.LogFacts.{tables_in};
 ghost use Rattle.gp_dump.specs.WholeDumps.{IsDump};
@@ -18,19 +18,23 @@ use crate::answered::Answered;
 use crate::causes::causes_answer;
 use crate::changes::{changes_answer, commit_changes_answer};
 use crate::checked::check_answer;
+use crate::conflicts::conflicts_answer;
 use crate::differences::diff_answer;
 use crate::hypothetical::what_if_answer;
+use crate::intervals::when_answer;
 use crate::keeping::KeptAnnotations;
 use crate::logs::log_answer;
+use crate::programs::saw_program_answer;
 use crate::queries::query_answer_by;
+use crate::row_histories::history_answer;
 use crate::row_versions::versions_answer;
-use crate::seeing::saw_answer;
+use crate::serial::serial_answer;
 use crate::states::ask_answer;
 use crate::transactions::transactions_answer;
 use gp_base::NoMemory;
 use gp_dump::Dump;
 use gp_exec::Backend;
-use gp_syntax::{How, Point, Query, Question};
+use gp_syntax::{How, Query, Question, Subject};
 use std::alloc::Global;
 
 /// Answers a question that was read ([`read_questions_are_valid`](crate::read_questions_are_valid)) from a dump that was read: it
@@ -40,7 +44,7 @@ use std::alloc::Global;
 /// refused. AS OF is refused if there is no such version (E23), REENACT if there is no such transaction (E20), it did not commit (E21) or
 /// has no such statement (E22).
 /// SAW is refused as REENACT is, but a transaction may have any end, and 0 statements too; so is CHANGES of a statement, and CHANGES of a
-/// COMMIT is refused as REENACT of one (E20, E21).
+/// COMMIT is refused as REENACT of one (E20, E21). EXPLAIN SAW is refused as SAW is before its rows are.
 /// Both are then refused by the check of their query (E04 to E07, E15), and VALUE IN by the first number of its rules that stands for
 /// no element of the semiring (E28). PROVENANCE OF, VALUE IN and WITHOUT are then refused by the versions that they need, one after
 /// another: if the transaction that made a version does not run (E25, E26), or does not make the rows that the dump has in a table
@@ -50,14 +54,23 @@ use std::alloc::Global;
 /// the rows that remain. EXPLAIN runs nothing, so none of these limits stops it. E24, E25 and E26 never
 /// come for the dump of a history.
 ///
-/// WHATIF asks the same of the history that the commits of the changed log, made again, lead to. It is refused first for the change: if
-/// there is no such transaction (E20), it did not commit (E21) or has no such statement (E22), if it cannot have one more (E14), or by the
-/// check of the new statement. Then the question is refused on the changed log as above, up to E28, then, unless it is EXPLAIN, by the
-/// first commit that cannot be made again (E25, E26, E31 if it would be lost, E14 if there would be too many row versions), and then for
-/// E27.
+/// WHATIF asks the same of the history that the commits of the changed log, made again, lead to. It is refused first for the changes, in
+/// their order: if there is no such transaction (E20), it did not commit (E21) or has no such statement (E22), if it cannot have one more
+/// (E14), or by the check of the new statement. Then the question is refused on the changed log as above, up to E28, then, unless it is
+/// EXPLAIN, by the first commit that cannot be made again (E25, E26, E31 if it would be lost, E14 if there would be too many row versions),
+/// then for what a SAW of a transaction that did not commit passes (E25, E26), and then for E27.
+///
+/// CONFLICTS is refused if no transaction has the number (E20), and then by the limits of its statements (E25, E26). HISTORY is refused by
+/// the check of its table and condition, then by these limits of the transactions that committed, one after another, and then for more
+/// lines than an answer has rows (E27). WHEN is refused by the check of its query, and where the answer over a version, or the lines, are
+/// more than that (E27).
 ///
 /// DIFF is refused as the question of its first side is, then as that of the second, and then for more lines than an answer has rows
-/// (E27). CAUSES is refused as the question itself is. Running out of memory is the only error.
+/// (E27). CAUSES is refused as the question itself is. Where one side of a DIFF has changes and the other has none, and for CAUSES, the
+/// rows of the dump have to be those that its log makes: behind the refusals that no rows decide, of the first side and then of the
+/// second, they are refused by the first commit that cannot be made again, and then by the least version in which a table has other
+/// rows (E24). SERIAL is refused for the transactions that committed, in the order of their versions (E25, E26). Running out of memory is
+/// the only error.
 pub fn answer(alloc: Global, dump: &Dump, question: &Question) -> Result<Answered, NoMemory>
     requires rules { IsDump (dump_view dump.now) }
     requires valid { tables_are_valid (tables_in (dump_view dump.now).entries) ≡ true }
@@ -92,23 +105,26 @@ pub fn answer_from(
         Question::Log { t } => log_answer(alloc, &dump.log, *t),
         Question::Versions { table } => versions_answer(alloc, dump, table),
         Question::Transactions => transactions_answer(alloc, dump),
-        Question::Saw { t, k, query } => saw_answer(alloc, dump, *t, *k, query),
         Question::Changes { t, k } => changes_answer(alloc, dump, *t, *k),
         Question::CommitChanges { t } => commit_changes_answer(alloc, dump, *t),
+        Question::Conflicts { t } => conflicts_answer(alloc, dump, *t),
+        Question::History { table, cond } => history_answer(alloc, dump, table, cond),
+        Question::When { query } => when_answer(alloc, dump, query),
+        Question::Serial => serial_answer(alloc, dump),
         Question::Check => check_answer(alloc, dump),
         Question::Diff {
             first,
             second,
             query,
         } => diff_answer(alloc, dump, first, second, query, kept),
-        Question::Causes { kept: own, query } => causes_answer(alloc, dump, own, query, kept),
-        Question::Ask { how, state, query } => { ask_answer(alloc, dump, how, *state, query, kept) }
+        Question::Causes { subject, query } => causes_answer(alloc, dump, subject, query, kept),
+        Question::Ask { subject, query } => ask_answer(alloc, dump, subject, query, kept),
         Question::WhatIf {
-            change,
-            how,
-            state,
+            changes,
+            subject,
             query,
-        } => what_if_answer(alloc, dump, change, how, *state, query),
+        } => what_if_answer(alloc, dump, changes.as_slice(), subject, query),
+        Question::ExplainSaw { t, k, query } => saw_program_answer(alloc, dump, *t, *k, query),
     }
 }
 
@@ -116,22 +132,23 @@ pub fn answer_from(
 fn ask_answer_by<B: Backend>(
     alloc: Global,
     dump: &Dump,
-    how: &How,
-    state: Point,
+    subject: &Subject,
     query: &Query,
     backend: &B,
 ) -> Result<Answered, NoMemory>
     requires rules { IsAnswerable (dump_view dump.now) }
     requires valid { tables_are_valid (tables_in (dump_view dump.now).entries) ≡ true }
     requires query { query_is_valid (query_view query.now) ≡ true }
-    requires rows { asks_rows (y.ask (how_view how.now) (point_view state) (query_view query.now))
-        ≡ true }
+    requires rows { asks_rows (y.ask (subject_view subject.now) (query_view query.now)) ≡ true }
     ensures { IfOk result (λ answered. AnswersBy (B.gives backend.now) (dump_view dump.now)
-        (y.ask (how_view how.now) (point_view state) (query_view query.now)) answered) }
+        (y.ask (subject_view subject.now) (query_view query.now)) answered) }
 {
-    match how {
-        How::Rows => query_answer_by(alloc, dump, state, query, backend),
-        _ => unreachable!(),
+    match subject {
+        Subject::State { how, state } => match how {
+            How::Rows => query_answer_by(alloc, dump, *state, query, backend),
+            _ => unreachable!(),
+        },
+        Subject::Saw { .. } => unreachable!(),
     }
 }
 
@@ -153,9 +170,7 @@ pub fn answer_by<B: Backend>(
         (question_view question.now) answered) }
 {
     match question {
-        Question::Ask { how, state, query } => {
-            ask_answer_by(alloc, dump, how, *state, query, backend)
-        }
+        Question::Ask { subject, query } => ask_answer_by(alloc, dump, subject, query, backend),
         _ => unreachable!(),
     }
 }

@@ -3,7 +3,7 @@
 
 ghost use Rattle.std.specs.Prelude.{◌≡◌, ◌<◌, ◌+◌, ◌^◌, ◌++◌, ℕ, None, Some, replicate, suc, true, map, IfOk, OnOk};
 ghost use Rattle.std.specs.List.{flat_map};
-ghost use Rattle.std.specs.Option.{option_to_list};
+ghost use Rattle.std.specs.Option.{option_or, option_to_list};
 ghost use Rattle.gp_algebra.specs.Views.{statement_view};
 ghost use Rattle.gp_check.specs.Valid.{query_is_valid, tables_are_valid};
 ghost use Rattle.gp_dump.specs.WholeDumps.{IsDump};
@@ -12,10 +12,12 @@ ghost use Rattle.gp_grammar.specs.Syntax as y;
 ghost use Rattle.gp_log.specs.Contents.{entries};
 ghost use Rattle.gp_log.specs.LogFacts.{tables_in};
 ghost use Rattle.gp_machine.specs.Entries.{version_of, versions_in};
-ghost use Rattle.gp_syntax.specs.Views.{change_view, kept_view, query_view};
+ghost use Rattle.gp_syntax.specs.Views.{change_view, query_view, subject_view};
 ghost use Rattle.gp_whatif.specs.Replays.{IsMade};
 ghost use Rattle.gp_ask.specs.Answerable.{has_few_items};
-ghost use Rattle.gp_ask.specs.Printed.{ask_to};
+ghost use Rattle.gp_ask.specs.Hypothetical.{asking_refusal};
+ghost use Rattle.gp_ask.specs.Made.{unmade_refusal};
+ghost use Rattle.gp_ask.specs.Printed.{query_to};
 ghost use Rattle.gp_ask.specs.DifferenceForms as f;
 ghost use Rattle.gp_ask.specs.Differences as d;
 ghost use Rattle.gp_ask.specs.Computed.{what_if_answer};
@@ -25,14 +27,15 @@ ghost use Rattle.gp_ask.specs.Writes.{ArePut, AreWrites, IsAsked, IsLine, commit
 use crate::answered::Answered;
 use crate::deltas::{Sizes, delta_sizes};
 use crate::differences::rows_in;
-use crate::hypothetical::{what_if_answer, what_if_from};
+use crate::hypothetical::{asking_refusal, what_if_answer, what_if_from};
 use crate::keeping::KeptAnnotations;
+use crate::made::unmade_refusal;
 use crate::states::ask_answer;
 use gp_algebra::Stmt;
 use gp_base::{NoMemory, Refusal, Row, Sequence, Text, append_all, text_of_pieces, write_refusal};
 use gp_dump::Dump;
 use gp_log::{Entry, Log, What};
-use gp_syntax::{Kept, LogChange, Query};
+use gp_syntax::{LogChange, Query, Subject};
 use gp_versions::VersionTable;
 use gp_whatif::{
     Made, ReplayStop, changes_keep_earlier_versions, copy_versions, make_version, none_made,
@@ -55,8 +58,8 @@ pub(crate) struct Write {
 pub(crate) struct Asked<'a> {
     /// The dump.
     pub dump: &'a Dump,
-    /// The state.
-    pub kept: &'a Kept,
+    /// What it is asked of.
+    pub subject: &'a Subject,
     /// The query.
     pub query: &'a Query,
     /// The rows of the answer, in row order.
@@ -83,7 +86,7 @@ fn committed_write(log: &Log, entry: &Entry) -> Option<Write>
     ensures { result ≡ committed_write (entries log.now) entry.now }
 {
     match &entry.what {
-        What::Statement { k, stmt, .. } => write_of(log, entry.t, *k, stmt),
+        What::Statement { k, stmt, .. } => write_of(log, entry.t, *k, stmt.as_ref()),
         _ => None,
     }
 }
@@ -201,7 +204,7 @@ fn answer_without(
     requires version { version_of own.t (dump_view asked.now.dump.now).entries ≡ Some (suc before) }
     requires made { IsMade (dump_view asked.now.dump.now).entries before versions.now }
     ensures { IfOk result (λ answered. answered ≡ f.without_in
-        (what_if_answer (dump_view asked.now.dump.now).entries) (kept_view asked.now.kept.now)
+        (what_if_answer (dump_view asked.now.dump.now).entries) (subject_view asked.now.subject.now)
         (query_view asked.now.query.now) (write_view own)) }
 {
     // Earlier versions are kept. The call does nothing.
@@ -211,15 +214,13 @@ fn answer_without(
         count: before,
         versions: copies,
     };
-    let change = dropping(own);
-    let kept = asked.kept;
+    let changes = [dropping(own)];
     what_if_from(
         alloc,
         asked.dump,
-        &change,
+        &changes,
         made,
-        &kept.how,
-        kept.state,
+        asked.subject,
         asked.query,
     )
 }
@@ -246,16 +247,8 @@ fn line_alone(alloc: Global, asked: &Asked<'_>, own: Write) -> Result<Option<Tex
     requires { IsAsked asked.now }
     ensures { IfOk result (IsLine asked.now own) }
 {
-    let change = dropping(own);
-    let kept = asked.kept;
-    let without = what_if_answer(
-        alloc,
-        asked.dump,
-        &change,
-        &kept.how,
-        kept.state,
-        asked.query,
-    )?;
+    let changes = [dropping(own)];
+    let without = what_if_answer(alloc, asked.dump, &changes, asked.subject, asked.query)?;
     cause_line(alloc, asked.rows, own, rows_in(alloc, without))
 }
 
@@ -387,7 +380,7 @@ fn all_lines(alloc: Global, found: Vec<Option<Text>>) -> Result<Sequence<Text>, 
 fn cause_lines(alloc: Global, asked: &Asked<'_>) -> Result<Sequence<Text>, NoMemory>
     requires asked { IsAsked asked.now }
     ensures { IfOk result (λ lines. lines ≡ f.all_cause_lines (f.without_in
-        (what_if_answer (dump_view asked.now.dump.now).entries) (kept_view asked.now.kept.now)
+        (what_if_answer (dump_view asked.now.dump.now).entries) (subject_view asked.now.subject.now)
         (query_view asked.now.query.now))
         (f.committed_writes (dump_view asked.now.dump.now).entries) asked.now.rows.now) }
 {
@@ -396,13 +389,70 @@ fn cause_lines(alloc: Global, asked: &Asked<'_>) -> Result<Sequence<Text>, NoMem
     all_lines(alloc, found)
 }
 
+/// What refuses the question for causes before its rows: what refuses the question itself, whatever the rows are, and then rows of the
+/// history that are not those that its log makes.
+fn causes_refusal(
+    alloc: Global,
+    dump: &Dump,
+    subject: &Subject,
+    query: &Query,
+) -> Result<Option<Refusal>, NoMemory>
+    requires rules { IsDump (dump_view dump.now) }
+    requires valid { tables_are_valid (tables_in (dump_view dump.now).entries) ≡ true }
+    ensures { IfOk result (λ refusal. refusal ≡ option_or (asking_refusal
+        (dump_view dump.now).entries (subject_view subject.now) (query_view query.now))
+        (unmade_refusal (dump_view dump.now))) }
+{
+    if let Some(refusal) = asking_refusal(alloc, &dump.log, subject, query)? {
+        return Ok(Some(refusal));
+    }
+    unmade_refusal(alloc, dump)
+}
+
+/// The statements that the rows of a query depend on, once nothing refuses the question for causes before its rows.
+fn caused_answer(
+    alloc: Global,
+    dump: &Dump,
+    subject: &Subject,
+    query: &Query,
+    kept: &mut KeptAnnotations,
+) -> Result<Answered, NoMemory>
+    requires rules { IsDump (dump_view dump.now) }
+    requires valid { tables_are_valid (tables_in (dump_view dump.now).entries) ≡ true }
+    requires query { query_is_valid (query_view query.now) ≡ true }
+    requires few { has_few_items (query_view query.now) ≡ true }
+    requires kept { AreKept dump.now kept.old }
+    ensures kept { AreKept dump.now kept.new }
+    ensures answered { IfOk result (λ answered. answered ≡ f.causes_of
+        (f.without_in (what_if_answer (dump_view dump.now).entries) (subject_view subject.now)
+        (query_view query.now)) (f.committed_writes (dump_view dump.now).entries)
+        (d.rows_in (query_to (dump_view dump.now) (subject_view subject.now)
+        (query_view query.now)))) }
+{
+    let answered = ask_answer(alloc, dump, subject, query, kept)?;
+    match rows_in(alloc, answered) {
+        Err(refusal) => Ok(Answered::Refused(refusal)),
+        Ok(rows) => {
+            let asked = Asked {
+                dump,
+                subject,
+                query,
+                rows: rows.as_slice(),
+            };
+            let lines = cause_lines(alloc, &asked)?;
+            Ok(Answered::Causes(lines))
+        }
+    }
+}
+
 /// The statements that the rows of a query over a state depend on: for each that writes, of a transaction that committed, how many rows the
 /// answer would lose and how many it would gain without it, or what would refuse the question. A statement without which the answer would be
-/// the same has no line. Refused as the question itself is. Running out of memory is the only error.
+/// the same has no line. Refused as the question itself is, but behind what refuses it whatever the rows are the rows of the dump have to be
+/// those that its log makes. Running out of memory is the only error.
 pub fn causes_answer(
     alloc: Global,
     dump: &Dump,
-    own: &Kept,
+    subject: &Subject,
     query: &Query,
     kept: &mut KeptAnnotations,
 ) -> Result<Answered, NoMemory>
@@ -413,21 +463,12 @@ pub fn causes_answer(
     requires kept { AreKept dump.now kept.old }
     ensures kept { AreKept dump.now kept.new }
     ensures answered { IfOk result (λ answered. answered ≡ d.causes_answer
-        (ask_to (dump_view dump.now)) (what_if_answer (dump_view dump.now).entries)
-        (dump_view dump.now).entries (kept_view own.now) (query_view query.now)) }
+        (query_to (dump_view dump.now)) (what_if_answer (dump_view dump.now).entries)
+        (unmade_refusal (dump_view dump.now)) (dump_view dump.now).entries
+        (subject_view subject.now) (query_view query.now)) }
 {
-    let answered = ask_answer(alloc, dump, &own.how, own.state, query, kept)?;
-    match rows_in(alloc, answered) {
-        Err(refusal) => Ok(Answered::Refused(refusal)),
-        Ok(rows) => {
-            let asked = Asked {
-                dump,
-                kept: own,
-                query,
-                rows: rows.as_slice(),
-            };
-            let lines = cause_lines(alloc, &asked)?;
-            Ok(Answered::Causes(lines))
-        }
+    match causes_refusal(alloc, dump, subject, query)? {
+        Some(refusal) => Ok(Answered::Refused(refusal)),
+        None => caused_answer(alloc, dump, subject, query, kept),
     }
 }

@@ -21,12 +21,12 @@ ghost use Rattle.gp_ask.specs.Keyed as c;
 use crate::answered::Answered;
 use gp_algebra::Stmt;
 use gp_base::{
-    Cell, Name, NoMemory, Row, RowId, Sequence, Text, sort_rows, text_of_pieces, write_id,
+    Cell, Name, NoMemory, Row, RowId, Sequence, Stop, Text, sort_rows, text_of_pieces, write_id,
     write_row,
 };
 use gp_dump::Dump;
 use gp_log::Log;
-use gp_reenact::{ReenactStop, changes_refusal, log_refusal, looked};
+use gp_reenact::{changes_refusal, log_refusal, looked};
 use gp_syntax::Point;
 use gp_txn::assigned;
 use gp_versions::Span;
@@ -35,7 +35,7 @@ use std::alloc::Global;
 // ---- texts
 
 /// A side of a change: a space and the row, or nothing if there is none.
-fn side_text(alloc: Global, side: Option<&Row>) -> Result<Vec<u8>, NoMemory>
+pub(crate) fn side_text(alloc: Global, side: Option<&Row>) -> Result<Vec<u8>, NoMemory>
     ensures { IfOk result (λ text. text.items
         ≡ s.side_text (option_map (λ row. row.now) side.entry)) }
 {
@@ -74,7 +74,7 @@ fn change_line(
 // ---- the rows of a statement
 
 /// The identity of a row that has its identity and its mark behind its cells.
-fn identity_of(row: &Row) -> Option<&RowId>
+pub(crate) fn identity_of(row: &Row) -> Option<&RowId>
     ensures { option_map (λ id. id.now) result ≡ c.identity_of row.now }
 {
     let cells = row.cells();
@@ -85,7 +85,7 @@ fn identity_of(row: &Row) -> Option<&RowId>
 }
 
 /// A place as a number of 32 bits. One that is larger counts as running out of memory, which so many rows take.
-fn numbered(place: usize) -> Result<u32, NoMemory>
+pub(crate) fn numbered(place: usize) -> Result<u32, NoMemory>
     ensures { IfOk result (λ n. n ≡ place) }
 {
     u32::try_from(place).ok().ok_or(NoMemory)
@@ -107,7 +107,7 @@ fn keyed_row(alloc: Global, place: u32, row: &Row, id: &RowId) -> Result<Row, No
 }
 
 /// Whether the statement changed a row of those by which one looks at it.
-fn is_changed(t: u32, k: u32, stmt: &Stmt, id: &RowId) -> bool
+pub(crate) fn is_changed(t: u32, k: u32, stmt: &Stmt, id: &RowId) -> bool
     ensures { result ≡ is_changed_by t k (statement_view stmt.now) id.now }
 {
     match stmt {
@@ -166,7 +166,7 @@ fn key_of(row: &Row) -> Option<&RowId>
 }
 
 /// The cells of a row without its key.
-fn own_cells(alloc: Global, row: &Row) -> Result<Row, NoMemory>
+pub(crate) fn own_cells(alloc: Global, row: &Row) -> Result<Row, NoMemory>
     ensures { IfOk result (λ own. own ≡ drop 2 row.now) }
 {
     let cells = row.cells();
@@ -265,8 +265,8 @@ fn written_changes(
             let lines = shown_lines(alloc, name, t, k, stmt, &rows)?;
             Ok(Answered::Changes(lines))
         }
-        Err(ReenactStop::Refused(refusal)) => Ok(Answered::Refused(refusal)),
-        Err(ReenactStop::NoMemory) => Err(NoMemory),
+        Err(Stop::Refused(refusal)) => Ok(Answered::Refused(refusal)),
+        Err(Stop::NoMemory) => Err(NoMemory),
     }
 }
 
@@ -308,7 +308,7 @@ fn statement_changes(alloc: Global, dump: &Dump, t: u32, k: u32) -> Result<Answe
 }
 
 /// The number of a transaction that the log has.
-fn transaction_number(log: &Log, t: u64) -> u32
+pub(crate) fn transaction_number(log: &Log, t: u64) -> u32
     requires { is_known t (entries log.now) ≡ true }
     ensures { result ≡ t }
 {
@@ -345,7 +345,7 @@ pub fn changes_answer(alloc: Global, dump: &Dump, t: u64, k: u64) -> Result<Answ
 // ---- commits
 
 /// Whether a span ends at a version.
-fn ends_at(span: &Span, version: u32) -> bool
+pub(crate) fn ends_at(span: &Span, version: u32) -> bool
     ensures { result ≡ s.ends_at version span.now }
 {
     match span.to {
@@ -355,7 +355,7 @@ fn ends_at(span: &Span, version: u32) -> bool
 }
 
 /// Whether two identities are one.
-fn is_same_id(id: &RowId, other: &RowId) -> bool
+pub(crate) fn is_same_id(id: &RowId, other: &RowId) -> bool
     ensures { result ≡ same_identity id.now other.now }
 {
     id == other

@@ -23,11 +23,9 @@ use crate::keeping::{KeptValues, rows_with_values};
 use crate::queries::asked;
 use crate::rules::left_out;
 use gp_algebra::Select;
-use gp_base::{NoMemory, Refusal, Sequence};
-use gp_check::CheckStop;
+use gp_base::{NoMemory, Refusal, Sequence, Stop};
 use gp_dump::Dump;
 use gp_kexec::{KRow, RemainStop, remaining};
-use gp_reenact::ReenactStop;
 use gp_semiring::Count;
 use gp_syntax::{Point, Query, Rule};
 use std::alloc::Global;
@@ -66,8 +64,8 @@ fn selected_remaining(
     let patterns = left_out(alloc, rules)?;
     match rows_with_values::<Count>(alloc, dump, state, select, patterns, slot) {
         Ok(rows) => counted_rows(alloc, rows),
-        Err(ReenactStop::Refused(refusal)) => Ok(Answered::Refused(refusal)),
-        Err(ReenactStop::NoMemory) => Err(NoMemory),
+        Err(Stop::Refused(refusal)) => Ok(Answered::Refused(refusal)),
+        Err(Stop::NoMemory) => Err(NoMemory),
     }
 }
 
@@ -89,11 +87,11 @@ pub fn remaining_answer(
     requires kept { MayBeKeptBy (elements_by count) dump.now slot.old }
     ensures kept { MayBeKeptBy (elements_by count) dump.now slot.new }
     ensures answered { IfOk result (λ answered. answered ≡ computed_answer (dump_view dump.now) (y.ask
-        (y.without (map rule_view rules.now)) (point_view state) (query_view query.now))) }
+        (y.of_state (y.without (map rule_view rules.now)) (point_view state)) (query_view query.now))) }
 {
     match asked(alloc, &dump.log, state, query) {
         Ok(select) => selected_remaining(alloc, dump, rules, state, &select, slot),
-        Err(CheckStop::Refused(refusal)) => Ok(Answered::Refused(refusal)),
-        Err(CheckStop::NoMemory) => Err(NoMemory),
+        Err(Stop::Refused(refusal)) => Ok(Answered::Refused(refusal)),
+        Err(Stop::NoMemory) => Err(NoMemory),
     }
 }

@@ -50,7 +50,7 @@ pub fn delta_sizes(rows: &[Row], others: &[Row]) -> Sizes
 }
 
 /// Adds the cells to a row.
-fn add_cells(row: &mut Row, cells: &[Cell]) -> Result<(), NoMemory>
+pub(crate) fn add_cells(row: &mut Row, cells: &[Cell]) -> Result<(), NoMemory>
     ensures { OnOk result (row.new ≡ row.old ++ cells.now) }
 {
     for cell in cells {

@@ -5,11 +5,12 @@ ghost use Rattle.gp_base.specs.declared.limit.TheConstants.{MAX_ANSWER_ROWS};
 ghost use Rattle.gp_check.specs.Valid.{query_is_valid, side_is_valid, tables_are_valid};
 ghost use Rattle.gp_dump.specs.WholeDumps.{IsDump};
 ghost use Rattle.gp_dump.specs.Views.{dump_view};
-ghost use Rattle.gp_grammar.specs.Laws.{side_has_statement};
+ghost use Rattle.gp_grammar.specs.Laws.{side_has_statements};
 ghost use Rattle.gp_log.specs.LogFacts.{tables_in};
 ghost use Rattle.gp_syntax.specs.Views.{query_view, side_view};
 ghost use Rattle.gp_ask.specs.Answerable.{has_few_items};
-ghost use Rattle.gp_ask.specs.Printed.{ask_to};
+ghost use Rattle.gp_ask.specs.Made.{unmade_refusal};
+ghost use Rattle.gp_ask.specs.Printed.{query_to};
 ghost use Rattle.gp_ask.specs.Deltas.{delta};
 ghost use Rattle.gp_ask.specs.DifferenceForms as f;
 ghost use Rattle.gp_ask.specs.Differences as d;
@@ -18,8 +19,9 @@ ghost use Rattle.gp_ask.specs.Keeping.{AreKept};
 
 use crate::answered::Answered;
 use crate::deltas::{Sizes, delta_rows, delta_sizes};
-use crate::hypothetical::what_if_answer;
+use crate::hypothetical::{asking_refusal, changed_refusal, what_if_answer};
 use crate::keeping::KeptAnnotations;
+use crate::made::unmade_refusal;
 use crate::states::ask_answer;
 use gp_base::{MAX_ANSWER_ROWS, NoMemory, Refusal, Row, Sequence};
 use gp_dump::Dump;
@@ -47,22 +49,88 @@ fn side_answer(
 ) -> Result<Answered, NoMemory>
     requires rules { IsDump (dump_view dump.now) }
     requires valid { tables_are_valid (tables_in (dump_view dump.now).entries) ≡ true }
-    requires statement { side_has_statement (side_view side.now) ≡ true }
+    requires statement { side_has_statements (side_view side.now) ≡ true }
     requires change { side_is_valid (side_view side.now) ≡ true }
     requires query { query_is_valid (query_view query.now) ≡ true }
     requires few { has_few_items (query_view query.now) ≡ true }
     requires kept { AreKept dump.now kept.old }
     ensures kept { AreKept dump.now kept.new }
     ensures answered { IfOk result (λ answered. answered ≡ d.side_answer
-        (ask_to (dump_view dump.now)) (what_if_answer (dump_view dump.now).entries)
+        (query_to (dump_view dump.now)) (what_if_answer (dump_view dump.now).entries)
         (side_view side.now) (query_view query.now)) }
 {
     match side {
-        Side::AsIs { kept: own } => ask_answer(alloc, dump, &own.how, own.state, query, kept),
-        Side::Changed { change, kept: own } => {
-            what_if_answer(alloc, dump, change, &own.how, own.state, query)
+        Side::AsIs { subject } => ask_answer(alloc, dump, subject, query, kept),
+        Side::Changed { changes, subject } => {
+            what_if_answer(alloc, dump, changes.as_slice(), subject, query)
         }
     }
+}
+
+/// Whether one side is of the history, and the other of a changed one.
+fn are_mixed(first: &Side, second: &Side) -> bool
+    ensures { result ≡ d.are_mixed (side_view first.now) (side_view second.now) }
+{
+    match first {
+        Side::AsIs { .. } => match second {
+            Side::AsIs { .. } => false,
+            Side::Changed { .. } => true,
+        },
+        Side::Changed { .. } => match second {
+            Side::AsIs { .. } => true,
+            Side::Changed { .. } => false,
+        },
+    }
+}
+
+/// What refuses the question of a side, whatever the rows are.
+fn side_refusal(
+    alloc: Global,
+    dump: &Dump,
+    side: &Side,
+    query: &Query,
+) -> Result<Option<Refusal>, NoMemory>
+    requires rules { IsDump (dump_view dump.now) }
+    requires valid { tables_are_valid (tables_in (dump_view dump.now).entries) ≡ true }
+    requires statement { side_has_statements (side_view side.now) ≡ true }
+    ensures { IfOk result (λ refusal. refusal ≡ d.side_refusal (dump_view dump.now).entries
+        (side_view side.now) (query_view query.now)) }
+{
+    match side {
+        Side::AsIs { subject } => asking_refusal(alloc, &dump.log, subject, query),
+        Side::Changed { changes, subject } => {
+            changed_refusal(alloc, dump, changes.as_slice(), subject, query)
+        }
+    }
+}
+
+/// What refuses a difference between the history and a changed one: what refuses the question of a side, whatever the rows are, and then
+/// rows of the history that are not those that its log makes.
+fn mixed_refusal(
+    alloc: Global,
+    dump: &Dump,
+    first: &Side,
+    second: &Side,
+    query: &Query,
+) -> Result<Option<Refusal>, NoMemory>
+    requires rules { IsDump (dump_view dump.now) }
+    requires valid { tables_are_valid (tables_in (dump_view dump.now).entries) ≡ true }
+    requires first_statement { side_has_statements (side_view first.now) ≡ true }
+    requires second_statement { side_has_statements (side_view second.now) ≡ true }
+    ensures { IfOk result (λ refusal. refusal ≡ d.mixed_refusal
+        (unmade_refusal (dump_view dump.now)) (dump_view dump.now).entries
+        (side_view first.now) (side_view second.now) (query_view query.now)) }
+{
+    if !are_mixed(first, second) {
+        return Ok(None);
+    }
+    if let Some(refusal) = side_refusal(alloc, dump, first, query)? {
+        return Ok(Some(refusal));
+    }
+    if let Some(refusal) = side_refusal(alloc, dump, second, query)? {
+        return Ok(Some(refusal));
+    }
+    unmade_refusal(alloc, dump)
 }
 
 /// Whether a difference has more lines than an answer has rows.
@@ -100,8 +168,9 @@ fn diff_of(
 }
 
 /// The difference between the rows of a query over two sides: each row as often as it is more often in one of them. Refused as the question
-/// of the first side is, then as that of the second; then for more than [`MAX_ANSWER_ROWS`](gp_base::MAX_ANSWER_ROWS) lines (E27). Running
-/// out of memory is the only error.
+/// of the first side is, then as that of the second; then for more than [`MAX_ANSWER_ROWS`](gp_base::MAX_ANSWER_ROWS) lines (E27). Where one
+/// side is of the history and the other of a changed one, what refuses either whatever the rows are comes first, and then the rows of the
+/// dump that are not those that its log makes. Running out of memory is the only error.
 pub fn diff_answer(
     alloc: Global,
     dump: &Dump,
@@ -112,18 +181,22 @@ pub fn diff_answer(
 ) -> Result<Answered, NoMemory>
     requires rules { IsDump (dump_view dump.now) }
     requires valid { tables_are_valid (tables_in (dump_view dump.now).entries) ≡ true }
-    requires first_statement { side_has_statement (side_view first.now) ≡ true }
+    requires first_statement { side_has_statements (side_view first.now) ≡ true }
     requires first_change { side_is_valid (side_view first.now) ≡ true }
-    requires second_statement { side_has_statement (side_view second.now) ≡ true }
+    requires second_statement { side_has_statements (side_view second.now) ≡ true }
     requires second_change { side_is_valid (side_view second.now) ≡ true }
     requires query { query_is_valid (query_view query.now) ≡ true }
     requires few { has_few_items (query_view query.now) ≡ true }
     requires kept { AreKept dump.now kept.old }
     ensures kept { AreKept dump.now kept.new }
     ensures answered { IfOk result (λ answered. answered ≡ d.diff_answer
-        (ask_to (dump_view dump.now)) (what_if_answer (dump_view dump.now).entries)
+        (query_to (dump_view dump.now)) (what_if_answer (dump_view dump.now).entries)
+        (unmade_refusal (dump_view dump.now)) (dump_view dump.now).entries
         (side_view first.now) (side_view second.now) (query_view query.now)) }
 {
+    if let Some(refusal) = mixed_refusal(alloc, dump, first, second, query)? {
+        return Ok(Answered::Refused(refusal));
+    }
     let first = rows_in(alloc, side_answer(alloc, dump, first, query, kept)?);
     let second = rows_in(alloc, side_answer(alloc, dump, second, query, kept)?);
     diff_of(alloc, first, second)

@@ -344,8 +344,18 @@ pub fn write_answer(
         Answered::Changes(texts) => {
             write_listed(alloc, number, b"changes", texts.as_slice(), out)
         }
+        Answered::Conflicts(texts) => {
+            write_listed(alloc, number, b"conflicts", texts.as_slice(), out)
+        }
+        Answered::History(texts) => {
+            write_listed(alloc, number, b"history", texts.as_slice(), out)
+        }
+        Answered::When(texts) => write_listed(alloc, number, b"when", texts.as_slice(), out),
         Answered::Diff(rows) => write_difference(alloc, number, rows.as_slice(), out),
         Answered::Causes(texts) => write_listed(alloc, number, b"causes", texts.as_slice(), out),
+        Answered::Serial(texts) => write_listed(alloc, number, b"serial", texts.as_slice(), out),
+        Answered::Cycle(texts) => write_listed(alloc, number, b"cycle", texts.as_slice(), out),
+        Answered::Undecided => write_listed(alloc, number, b"undecided", &[], out),
         Answered::Checked(line) => write_checked(alloc, number, line, out),
         Answered::Refused(refusal) => write_refused(alloc, number, &refusal, out),
     }

@@ -3,7 +3,7 @@
 ghost use Rattle.std.specs.Prelude.{◌≡◌, ◌++◌, true, IfOk, OnErr, OnOk};
 ghost use Rattle.gp_grammar.specs.Reading.{question_of};
 ghost use Rattle.gp_grammar.specs.Syntax as y;
-ghost use Rattle.gp_syntax.specs.Views.{how_view, query_view, question_view};
+ghost use Rattle.gp_syntax.specs.Views.{how_view, query_view, question_view, subject_view};
 ghost use Rattle.gp_check.specs.Valid.{tables_are_valid};
 ghost use Rattle.gp_csv.specs.Answers.{csv_text};
 ghost use Rattle.gp_dump.specs.WholeDumps.{IsDump};
@@ -26,17 +26,17 @@ use crate::format::Format;
 use crate::keeping::KeptAnnotations;
 use crate::sql::sql_answer;
 use crate::titles::{difference_titles, row_titles};
-use gp_base::{Catalog, NoMemory, Refusal};
+use gp_base::{Catalog, NoMemory, Refusal, Stop};
 use gp_csv::{write_answer_csv, write_refusal_csv, write_titled_csv};
 use gp_dump::Dump;
 use gp_sql::write_tables;
-use gp_syntax::{How, Query, Question, ReadStop, read_question};
+use gp_syntax::{How, Query, Question, Subject, read_question};
 use std::alloc::Global;
 
 /// Whether rows are asked for.
 fn are_rows(how: &How) -> bool
     ensures { (state : y.Point) (query : y.Query)
-        → result ≡ asks_rows (y.ask (how_view how.now) state query) }
+        → result ≡ asks_rows (y.ask (y.of_state (how_view how.now) state) query) }
 {
     match how {
         How::Rows => true,
@@ -44,6 +44,16 @@ fn are_rows(how: &How) -> bool
         How::Explain { .. } => false,
         How::Value { .. } => false,
         How::Without { .. } => false,
+    }
+}
+
+/// Whether the rows of a state are asked for.
+fn are_rows_of(subject: &Subject) -> bool
+    ensures { (query : y.Query) → result ≡ asks_rows (y.ask (subject_view subject.now) query) }
+{
+    match subject {
+        Subject::State { how, .. } => are_rows(how),
+        Subject::Saw { .. } => false,
     }
 }
 
@@ -55,14 +65,18 @@ fn asks_rows(question: &Question) -> bool
         Question::Transactions => false,
         Question::Log { .. } => false,
         Question::Versions { .. } => false,
-        Question::Saw { .. } => false,
         Question::Changes { .. } => false,
         Question::CommitChanges { .. } => false,
+        Question::Conflicts { .. } => false,
+        Question::History { .. } => false,
+        Question::When { .. } => false,
+        Question::Serial => false,
         Question::Check => false,
         Question::Diff { .. } => false,
         Question::Causes { .. } => false,
-        Question::Ask { how, .. } => are_rows(how),
+        Question::Ask { subject, .. } => are_rows_of(subject),
         Question::WhatIf { .. } => false,
+        Question::ExplainSaw { .. } => false,
     }
 }
 
@@ -82,8 +96,8 @@ fn exported(alloc: Global, dump: &Dump, question: &Question) -> Result<Answered,
 }
 
 /// Whether rows are asked for, or those that are left.
-fn gives_rows(how: &How) -> bool
-    ensures { result ≡ f.gives_rows (how_view how.now) }
+fn are_given(how: &How) -> bool
+    ensures { (state : y.Point) → result ≡ f.gives_rows (y.of_state (how_view how.now) state) }
 {
     match how {
         How::Rows => true,
@@ -91,6 +105,16 @@ fn gives_rows(how: &How) -> bool
         How::Explain { .. } => false,
         How::Value { .. } => false,
         How::Without { .. } => true,
+    }
+}
+
+/// Whether rows are asked for, those that are left, or those that a transaction saw.
+fn gives_rows(subject: &Subject) -> bool
+    ensures { result ≡ f.gives_rows (subject_view subject.now) }
+{
+    match subject {
+        Subject::State { how, .. } => are_given(how),
+        Subject::Saw { .. } => true,
     }
 }
 
@@ -156,12 +180,11 @@ fn named(
         (question_view question.now)) }
 {
     match question {
-        Question::Saw { query, .. } => titled_answer(alloc, dump, question, query, kept),
         Question::Diff { query, .. } => titled_answer(alloc, dump, question, query, kept),
-        Question::Ask { how, query, .. } if gives_rows(how) => {
+        Question::Ask { subject, query } if gives_rows(subject) => {
             titled_answer(alloc, dump, question, query, kept)
         }
-        Question::WhatIf { how, query, .. } if gives_rows(how) => {
+        Question::WhatIf { subject, query, .. } if gives_rows(subject) => {
             titled_answer(alloc, dump, question, query, kept)
         }
         _ => Ok(Answered::Refused(Refusal::E30)),
@@ -228,8 +251,8 @@ pub fn answer_line_in(
             drop(question);
             found
         }
-        Err(ReadStop::Refused(refusal)) => Ok(Answered::Refused(refusal)),
-        Err(ReadStop::NoMemory) => Err(NoMemory),
+        Err(Stop::Refused(refusal)) => Ok(Answered::Refused(refusal)),
+        Err(Stop::NoMemory) => Err(NoMemory),
     }
 }
 
@@ -269,8 +292,14 @@ fn exported_text(alloc: Global, number: u32, answered: &Answered) -> Result<Vec<
         | Answered::Program(_)
         | Answered::Transactions(_)
         | Answered::Changes(_)
+        | Answered::Conflicts(_)
+        | Answered::History(_)
+        | Answered::When(_)
         | Answered::Diff(_)
         | Answered::Causes(_)
+        | Answered::Serial(_)
+        | Answered::Cycle(_)
+        | Answered::Undecided
         | Answered::Checked(_) => write_refusal_csv(alloc, number, &Refusal::E30),
     }
 }

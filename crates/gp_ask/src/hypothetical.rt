@@ -1,23 +1,24 @@
-//! Questions about the history that there would be with a change of the log.
+//! Questions about the history that there would be with changes of the log.
 
 ghost use Rattle.std.specs.Prelude.{◌≡◌, ◌<◌, ◌≤◌, Ok, Some, true, IfOk, List, length};
 ghost use Rattle.gp_base.specs.declared.refusal.Refusal.TheVariants.{E31};
-ghost use Rattle.gp_check.specs.Valid.{change_is_valid, query_is_valid, tables_are_valid};
+ghost use Rattle.gp_check.specs.Valid.{changes_are_valid, query_is_valid, tables_are_valid};
 ghost use Rattle.gp_dump.specs.WholeDumps.{IsDump};
 ghost use Rattle.gp_dump.specs.Views.{dump_view};
-ghost use Rattle.gp_grammar.specs.Laws.{has_statement};
+ghost use Rattle.gp_grammar.specs.Laws.{have_statements};
 ghost use Rattle.gp_grammar.specs.Syntax as y;
 ghost use Rattle.gp_log.specs.Contents.{commits, entries, tables};
 ghost use Rattle.gp_log.specs.LogFacts.{tables_in};
 ghost use Rattle.gp_log.specs.Parameters.{parameters};
 ghost use Rattle.gp_machine.specs.Entries.{Entry, committer_of, versions_in};
 ghost use Rattle.gp_machine.specs.Event.{name_at};
-ghost use Rattle.gp_syntax.specs.Views.{change_view, how_view, query_view, point_view};
+ghost use Rattle.gp_syntax.specs.Views.{changes_view, how_view, query_view, point_view, subject_view};
 ghost use Rattle.gp_whatif.specs.Changed.{changed_log};
 ghost use Rattle.gp_whatif.specs.Replays.{IsMade, IsReplayable};
 ghost use Rattle.gp_ask.specs.Answerable.{has_few_items};
 ghost use Rattle.gp_ask.specs.Computed.{computed_answer};
-ghost use Rattle.gp_ask.specs.Printed.{ask_to};
+ghost use Rattle.gp_ask.specs.Differences as d;
+ghost use Rattle.gp_ask.specs.Printed.{query_to};
 ghost use Rattle.gp_ask.specs.Programs.{program_lines};
 ghost use Rattle.gp_ask.specs.ExplainedTexts.{ExplainsQuestion};
 ghost use Rattle.gp_ask.specs.Hypothetical as h;
@@ -30,25 +31,23 @@ use crate::keeping::KeptAnnotations;
 use crate::laws::changed_histories_answer_their_questions;
 use crate::programs::program_answer;
 use crate::queries::asked;
+use crate::seeing::seen;
 use crate::states::ask_answer;
 use crate::values::rules_refusal;
-use gp_base::{Limit, NoMemory, Refusal, RowId, Sequence};
-use gp_check::CheckStop;
+use gp_base::{Limit, NoMemory, Refusal, RowId, Sequence, Stop};
 use gp_dump::Dump;
 use gp_log::Log;
 use gp_machine::conflicts_are_least;
-use gp_syntax::{How, LogChange, Point, Query};
+use gp_syntax::{How, LogChange, Point, Query, Subject};
 use gp_whatif::{
-    ChangeStop, Made, ReplayStop, changed_lines_rise, changed_logs_are_replayable, none_made,
-    replay_from,
+    Made, ReplayStop, changed_lines_rise, changed_logs_are_replayable, none_made, replay_from,
 };
 use std::alloc::Global;
 
 // ---- refusals
 
-/// What refuses a question on a log, whatever the rows are: E20 to E23 if the log has no such state, then the check of the query, then
-/// E28 for the rules of VALUE IN.
-fn asking_refusal(
+/// What refuses a question about a state, whatever the rows are.
+fn state_refusal(
     alloc: Global,
     log: &Log,
     how: &How,
@@ -56,12 +55,71 @@ fn asking_refusal(
     query: &Query,
 ) -> Result<Option<Refusal>, NoMemory>
     ensures { IfOk result (λ refusal. refusal ≡ h.asking_refusal (entries log.now)
-        (how_view how.now) (point_view state) (query_view query.now)) }
+        (y.of_state (how_view how.now) (point_view state)) (query_view query.now)) }
 {
     match asked(alloc, log, state, query) {
         Ok(_) => rules_refusal(alloc, how),
-        Err(CheckStop::Refused(refusal)) => Ok(Some(refusal)),
-        Err(CheckStop::NoMemory) => Err(NoMemory),
+        Err(Stop::Refused(refusal)) => Ok(Some(refusal)),
+        Err(Stop::NoMemory) => Err(NoMemory),
+    }
+}
+
+/// What refuses a question about what a transaction saw, whatever the rows are.
+fn saw_refusal(
+    alloc: Global,
+    log: &Log,
+    t: u64,
+    k: u64,
+    query: &Query,
+) -> Result<Option<Refusal>, NoMemory>
+    ensures { IfOk result (λ refusal. refusal
+        ≡ h.asking_refusal (entries log.now) (y.saw t k) (query_view query.now)) }
+{
+    match seen(alloc, log, t, k, query) {
+        Ok(_) => Ok(None),
+        Err(Stop::Refused(refusal)) => Ok(Some(refusal)),
+        Err(Stop::NoMemory) => Err(NoMemory),
+    }
+}
+
+/// What refuses a question on a log, whatever the rows are: E20 to E23 if the log has no such state, transaction or statement, then the
+/// check of the query, then E28 for the rules of VALUE IN.
+pub(crate) fn asking_refusal(
+    alloc: Global,
+    log: &Log,
+    subject: &Subject,
+    query: &Query,
+) -> Result<Option<Refusal>, NoMemory>
+    ensures { IfOk result (λ refusal. refusal ≡ h.asking_refusal (entries log.now)
+        (subject_view subject.now) (query_view query.now)) }
+{
+    match subject {
+        Subject::State { how, state } => state_refusal(alloc, log, how, *state, query),
+        Subject::Saw { t, k } => saw_refusal(alloc, log, *t, *k, query),
+    }
+}
+
+/// What refuses a question on the log with changes, whatever the rows are: the first change that is refused, or else what refuses it there.
+pub(crate) fn changed_refusal(
+    alloc: Global,
+    dump: &Dump,
+    changes: &[LogChange],
+    subject: &Subject,
+    query: &Query,
+) -> Result<Option<Refusal>, NoMemory>
+    requires rules { IsDump (dump_view dump.now) }
+    requires valid { tables_are_valid (tables_in (dump_view dump.now).entries) ≡ true }
+    requires statements { have_statements (changes_view changes.now) ≡ true }
+    ensures { IfOk result (λ refusal. refusal ≡ d.refusal_on
+        (changed_log parameters (dump_view dump.now).entries (changes_view changes.now))
+        (subject_view subject.now) (query_view query.now)) }
+{
+    // The lines of a log are those of a script. The call does nothing.
+    changed_lines_rise();
+    match gp_whatif::change(alloc, &dump.log, changes) {
+        Ok(log) => asking_refusal(alloc, &log, subject, query),
+        Err(Stop::Refused(refusal)) => Ok(Some(refusal)),
+        Err(Stop::NoMemory) => Err(NoMemory),
     }
 }
 
@@ -80,7 +138,7 @@ fn lost(log: &Log, version: u32, other: u32, table: u32, id: RowId) -> Result<Re
 }
 
 /// The refusal of the first commit that cannot be made again.
-fn remaking_refusal(log: &Log, stop: ReplayStop) -> Result<Refusal, NoMemory>
+pub(crate) fn remaking_refusal(log: &Log, stop: ReplayStop) -> Result<Refusal, NoMemory>
     requires replayable { r.IsReplayable log.now }
     requires stops { r.IsStopOf log.now (commits log.now) stop }
     ensures { IfOk result (λ refusal. h.remaking_refusal (entries log.now) ≡ Some refusal) }
@@ -110,8 +168,7 @@ fn replayed_answer(
     alloc: Global,
     log: Log,
     made: Made,
-    how: &How,
-    state: Point,
+    subject: &Subject,
     query: &Query,
 ) -> Result<Answered, NoMemory>
     requires replayable { IsReplayable (entries log) }
@@ -121,8 +178,8 @@ fn replayed_answer(
     requires query { query_is_valid (query_view query.now) ≡ true }
     requires few { has_few_items (query_view query.now) ≡ true }
     ensures { IfOk result (λ answered. answered
-        ≡ unless_refused (h.remaking_refusal (entries log)) (ask_to (replayed_dump (entries log))
-        (how_view how.now) (point_view state) (query_view query.now))) }
+        ≡ unless_refused (h.remaking_refusal (entries log)) (query_to (replayed_dump (entries log))
+        (subject_view subject.now) (query_view query.now))) }
 {
     // The order of the row versions changes no answer. The call does nothing.
     changed_histories_answer_their_questions();
@@ -131,7 +188,7 @@ fn replayed_answer(
             let versions = Sequence::from_vec(versions);
             let dump = Dump { log, versions };
             let mut kept = KeptAnnotations::new();
-            ask_answer(alloc, &dump, how, state, query, &mut kept)
+            ask_answer(alloc, &dump, subject, query, &mut kept)
         }
         Err(stop) => Ok(Answered::Refused(remaking_refusal(&log, stop)?)),
     }
@@ -142,8 +199,7 @@ fn remade_rows(
     alloc: Global,
     log: Log,
     made: Made,
-    how: &How,
-    state: Point,
+    subject: &Subject,
     query: &Query,
 ) -> Result<Answered, NoMemory>
     requires replayable { IsReplayable (entries log) }
@@ -153,13 +209,13 @@ fn remade_rows(
     requires query { query_is_valid (query_view query.now) ≡ true }
     requires few { has_few_items (query_view query.now) ≡ true }
     ensures { IfOk result (λ answered. answered ≡ unless_refused (h.asking_refusal (entries log)
-        (how_view how.now) (point_view state) (query_view query.now))
-        (unless_refused (h.remaking_refusal (entries log)) (ask_to (replayed_dump (entries log))
-        (how_view how.now) (point_view state) (query_view query.now)))) }
+        (subject_view subject.now) (query_view query.now))
+        (unless_refused (h.remaking_refusal (entries log)) (query_to (replayed_dump (entries log))
+        (subject_view subject.now) (query_view query.now)))) }
 {
-    match asking_refusal(alloc, &log, how, state, query)? {
+    match asking_refusal(alloc, &log, subject, query)? {
         Some(refusal) => Ok(Answered::Refused(refusal)),
-        None => replayed_answer(alloc, log, made, how, state, query),
+        None => replayed_answer(alloc, log, made, subject, query),
     }
 }
 
@@ -168,8 +224,7 @@ fn remade_answer(
     alloc: Global,
     log: Log,
     made: Made,
-    how: &How,
-    state: Point,
+    subject: &Subject,
     query: &Query,
 ) -> Result<Answered, NoMemory>
     requires replayable { IsReplayable (entries log) }
@@ -179,81 +234,83 @@ fn remade_answer(
     requires query { query_is_valid (query_view query.now) ≡ true }
     requires few { has_few_items (query_view query.now) ≡ true }
     ensures answered { IfOk result (λ answered. answered
-        ≡ h.remade_answer program_lines (ask_to (replayed_dump (entries log))) (entries log)
-        (how_view how.now) (point_view state) (query_view query.now)) }
+        ≡ h.remade_answer program_lines (query_to (replayed_dump (entries log))) (entries log)
+        (subject_view subject.now) (query_view query.now)) }
     ensures explained { IfOk result (λ answered. ExplainsQuestion (entries log)
-        (y.ask (how_view how.now) (point_view state) (query_view query.now))) }
+        (y.ask (subject_view subject.now) (query_view query.now))) }
 {
-    match how {
-        How::Explain { prov } => program_answer(alloc, &log, *prov, state, query),
-        _ => remade_rows(alloc, log, made, how, state, query),
+    match subject {
+        Subject::State { how, state } => match how {
+            How::Explain { prov } => program_answer(alloc, &log, *prov, *state, query),
+            _ => remade_rows(alloc, log, made, subject, query),
+        },
+        Subject::Saw { .. } => remade_rows(alloc, log, made, subject, query),
     }
 }
 
-/// The answer to a query over a state of the history that there would be with a change of the log, of which the first commits are made
+/// The answer to a query over the history that there would be with changes of the log, of which the first commits are made
 /// again. They are those of the changed log, if there is one.
 pub fn what_if_from(
     alloc: Global,
     dump: &Dump,
-    change: &LogChange,
+    changes: &[LogChange],
     made: Made,
-    how: &How,
-    state: Point,
+    subject: &Subject,
     query: &Query,
 ) -> Result<Answered, NoMemory>
     requires rules { IsDump (dump_view dump.now) }
     requires valid { tables_are_valid (tables_in (dump_view dump.now).entries) ≡ true }
-    requires statement { has_statement (change_view change.now) ≡ true }
-    requires change { change_is_valid (change_view change.now) ≡ true }
+    requires statements { have_statements (changes_view changes.now) ≡ true }
+    requires changes { changes_are_valid (changes_view changes.now) ≡ true }
     requires query { query_is_valid (query_view query.now) ≡ true }
     requires few { has_few_items (query_view query.now) ≡ true }
     requires made { (new : List Entry)
-        → changed_log parameters (dump_view dump.now).entries (change_view change.now) ≡ Ok new
+        → changed_log parameters (dump_view dump.now).entries (changes_view changes.now) ≡ Ok new
         → (made.count ≤ versions_in new) × IsMade new made.count made.versions.items }
     ensures answered { IfOk result (λ answered. answered ≡ computed_answer (dump_view dump.now) (y.what_if
-        (change_view change.now) (how_view how.now) (point_view state) (query_view query.now))) }
+        (changes_view changes.now) (subject_view subject.now) (query_view query.now))) }
     ensures explained { IfOk result (λ answered. ExplainsQuestion (dump_view dump.now).entries
-        (y.what_if (change_view change.now) (how_view how.now) (point_view state)
+        (y.what_if (changes_view changes.now) (subject_view subject.now)
         (query_view query.now))) }
 {
-    // The lines of a log can be doubled, and a changed log has its tables. The calls do nothing.
+    // The lines of a log are those of a script, and a changed log has its tables. The calls do nothing.
     changed_lines_rise();
     changed_logs_are_replayable();
-    match gp_whatif::change(alloc, &dump.log, change) {
-        Ok(log) => remade_answer(alloc, log, made, how, state, query),
-        Err(ChangeStop::Refused(refusal)) => Ok(Answered::Refused(refusal)),
-        Err(ChangeStop::NoMemory) => Err(NoMemory),
+    match gp_whatif::change(alloc, &dump.log, changes) {
+        Ok(log) => remade_answer(alloc, log, made, subject, query),
+        Err(Stop::Refused(refusal)) => Ok(Answered::Refused(refusal)),
+        Err(Stop::NoMemory) => Err(NoMemory),
     }
 }
 
-/// The answer to a query over a state of the history that there would be with a change of the log: its commits are made again, from
+/// The answer to a query over the history that there would be with changes of the log: its commits are made again, from
 /// nothing, and its rows, their provenance and their values are those of that history.
 ///
-/// The change is refused first (E20 to E22, E14, or the check of its statement), then the question on the changed log (E20 to E23, the check
-/// of its query, and E28), then the first commit that cannot be made again: E25, E26, E31 if it would be lost, or E14 if there would be too
-/// many row versions. E27 comes last. EXPLAIN runs nothing, so no commit stops it.
+/// The first change that is refused comes first (E20 to E22, E14, or the check of its statement), then the question on the changed log (E20
+/// to E23, the check of its query, and E28), then the first commit that cannot be made again: E25, E26, E31 if it would be lost, or E14 if
+/// there would be too many row versions. A SAW of a transaction that did not commit is refused for its own statements then (E25, E26). E27
+/// comes last. EXPLAIN runs nothing, so no commit stops it.
 pub fn what_if_answer(
     alloc: Global,
     dump: &Dump,
-    change: &LogChange,
-    how: &How,
-    state: Point,
+    changes: &[LogChange],
+    subject: &Subject,
     query: &Query,
 ) -> Result<Answered, NoMemory>
     requires rules { IsDump (dump_view dump.now) }
     requires valid { tables_are_valid (tables_in (dump_view dump.now).entries) ≡ true }
-    requires statement { has_statement (change_view change.now) ≡ true }
-    requires change { change_is_valid (change_view change.now) ≡ true }
+    requires statements { have_statements (changes_view changes.now) ≡ true }
+    requires changes { changes_are_valid (changes_view changes.now) ≡ true }
     requires query { query_is_valid (query_view query.now) ≡ true }
     requires few { has_few_items (query_view query.now) ≡ true }
     ensures answered { IfOk result (λ answered. answered ≡ computed_answer (dump_view dump.now) (y.what_if
-        (change_view change.now) (how_view how.now) (point_view state) (query_view query.now))) }
+        (changes_view changes.now) (subject_view subject.now) (query_view query.now))) }
     ensures explained { IfOk result (λ answered. ExplainsQuestion (dump_view dump.now).entries
-        (y.what_if (change_view change.now) (how_view how.now) (point_view state)
+        (y.what_if (changes_view changes.now) (subject_view subject.now)
         (query_view query.now))) }
 {
     // A changed log has the tables of the log. The call does nothing.
     changed_logs_are_replayable();
     let made = none_made(alloc, &dump.log)?;
-    what_if_from(alloc, dump, change, made, how, state, query)
+    what_if_from(alloc, dump, changes, made, subject, query)
 }

@@ -22,11 +22,10 @@ ghost use Rattle.gp_ask.specs.Keeping.{AreKept, MayBeKeptBy, MayBeKeptOf};
 
 use crate::rules::{are_same, copy_rules};
 use gp_algebra::Select;
-use gp_base::Monomial;
+use gp_base::{Monomial, Stop};
 use gp_dump::Dump;
 use gp_history::{Kept, values_from};
 use gp_kexec::KRow;
-use gp_reenact::ReenactStop;
 use gp_semiring::{Bool, Cost, Count, Level, Poly, PosBool, Rules, Semiring, by_rules};
 use gp_syntax::Point;
 use std::alloc::Global;
@@ -125,7 +124,7 @@ pub fn rows_with_values<K: Semiring>(
     select: &Select,
     rules: Rules,
     slot: &mut Option<KeptValues<K>>,
-) -> Result<Vec<KRow<K>>, ReenactStop>
+) -> Result<Vec<KRow<K>>, Stop>
     requires rules { IsAnswerable (dump_view dump.now) }
     requires fits { select_fits (tables_in (dump_view dump.now).entries) (select_view select.now)
         ≡ true }

@@ -1,6 +1,7 @@
 //! Laws of answers. Each function does nothing: its postcondition is the law, and some cite laws of the crates below.
 
-ghost use Rattle.std.specs.Prelude.{◌≡◌, ◌↔◌, ◌++◌, ◌<◌, [], ℕ, suc, false, true, Contains, List, length, map, None, Ok, Option};
+ghost use Rattle.std.specs.Prelude.{◌≡◌, ◌↔◌, ◌++◌, ◌<◌, [], ℕ, suc, false, true, Contains, List, filter, length, map, None, Ok, Option, ◌≤◌};
+ghost use Rattle.std.specs.Result.{result_unwrap_or};
 ghost use Rattle.std.specs.List.{AllByRecursion};
 ghost use Rattle.std.specs.List.Sorted.{IsPermutation, IsSorted};
 ghost use Rattle.gp_base.specs.declared.cell.Cell.{Cell};
@@ -18,7 +19,8 @@ ghost use Rattle.gp_log.specs.LogFacts.{tables_in};
 ghost use Rattle.gp_machine.specs.Committed.{is_written};
 ghost use Rattle.gp_machine.specs.Entries.{Entry, log_of, versions_in};
 ghost use Rattle.gp_machine.specs.Event.{Line, after, target_of};
-ghost use Rattle.gp_machine.specs.HistorySpans.{state_spans};
+ghost use Rattle.gp_machine.specs.HistorySpans.{as_of, state_spans};
+ghost use Rattle.gp_machine.specs.QuestionForms.{identified};
 ghost use Rattle.gp_machine.specs.Replayed.{replayed_state};
 ghost use Rattle.gp_machine.specs.Replaying.{replay_stop};
 ghost use Rattle.gp_machine.specs.ReplayForms.{CommitsInOrder, replayed_spans};
@@ -35,21 +37,29 @@ ghost use Rattle.gp_versions.specs.Spans.{span_cmp};
 ghost use Rattle.gp_whatif.specs.Changed.{changed_log};
 ghost use Rattle.gp_whatif.specs.Replays.{IsCoherent, IsReplayable, stop_upto};
 ghost use Rattle.gp_ask.specs.Answerable.{question_is_valid};
-ghost use Rattle.gp_ask.specs.Printed.{answer_to, held_to, what_if_held};
+ghost use Rattle.gp_ask.specs.Printed.{answer_to, held_to, query_to, what_if_held};
+ghost use Rattle.gp_ask.specs.Compared.{AnswersAsMade, compares_rows};
 ghost use Rattle.gp_ask.specs.Computed.{computed_answer, what_if_answer};
 ghost use Rattle.gp_ask.specs.Asking.{Programs, table_spans};
 ghost use Rattle.gp_ask.specs.Changes.{spans_texts};
 ghost use Rattle.gp_ask.specs.Deltas.{delta};
 ghost use Rattle.gp_ask.specs.DeltaForms.{added_rows, removed_rows, signed_row};
+ghost use Rattle.gp_ask.specs.Differences.{rows_in};
 ghost use Rattle.gp_ask.specs.Explained.{ExplainsLines};
 ghost use Rattle.gp_ask.specs.Hypothetical.{remaking_refusal, replayed_dump};
+ghost use Rattle.gp_ask.specs.IntervalForms.{has_version};
+ghost use Rattle.gp_ask.specs.Intervals.{intervals, refusal_upto, version_rows};
 ghost use Rattle.gp_ask.specs.Isolated.{IsIsolated, LosesToFirst};
+ghost use Rattle.gp_ask.specs.Made.{unmade_refusal};
 ghost use Rattle.gp_ask.specs.Answers as answers;
 ghost use Rattle.gp_ask.specs.Programs.{program_lines, sql_lines};
-ghost use Rattle.gp_ask.specs.Questions.{AreQuestions, ReadQuestion};
+ghost use Rattle.gp_ask.specs.Questions.{AreQuestions, ReadQuestion, is_refused};
 ghost use Rattle.gp_ask.specs.Replays.{dump_in};
+ghost use Rattle.gp_ask.specs.SerialAnswers.{serial_answer};
+ghost use Rattle.gp_ask.specs.SerialHistories.{RunsInCycle, RunsSerially};
 ghost use Rattle.gp_ask.specs.ShownWrites.{ShowsWrites};
 ghost use Rattle.gp_ask.specs.SqlAnswers.{AreStored, AsksLines};
+ghost use Rattle.gp_ask.specs.declared.answered.Answered.TheVariants.{Cycle, Serial};
 
 use gp_algebra::annotations_commute;
 use gp_base::Monomial as BaseMonomial;
@@ -57,7 +67,7 @@ use gp_history::{agreement_is_having_the_same_rows, values_are_those_of_the_hist
 use gp_machine::{
     annotations_change_no_replay, annotations_change_no_reply, commits_publish_the_spans,
     conflicts_are_least, histories_do_not_stop, identities_begin_with_their_committers,
-    reached_states_are_histories, spans_hold_the_versions,
+    reached_states_are_histories, serial_orders_are_histories, spans_hold_the_versions,
     unstopped_histories_answer_their_questions,
 };
 use gp_semiring::{Bool, Cost, Count, Level, Poly, PosBool, Semiring};
@@ -65,8 +75,8 @@ use gp_sql::{queries_give_the_rows_of_programs, queries_of_programs_are_spelled}
 use gp_typed::well_formed_dumps_are_typed;
 use gp_versions::a_version_has_one_row_of_an_identity;
 use gp_whatif::{
-    changed_logs_are_coherent, changed_logs_are_replayable, logs_keep_their_sessions,
-    replays_have_the_tables_of_their_logs,
+    changed_logs_are_coherent, changed_logs_are_replayable, histories_are_replayed_as_they_were,
+    logs_keep_their_sessions, replays_have_the_tables_of_their_logs,
 };
 
 /// Every question that was read is valid: its query is one that the check can answer, none of its FROM passes the limit of items, and
@@ -104,8 +114,8 @@ pub fn unstopped_histories_answer_as_their_dumps()
         → tables_in state.entries ≡ state.catalogue → (tables : List (List Span))
         → ((place : ℕ) → IsPermutation (table_spans tables place) (state_spans state place))
         → (how : y.How) (point : y.Point) (query : y.Query)
-        → answer_to (dump_in state.entries tables) (y.ask how point query)
-        ≡ held_to state (y.ask how point query) }
+        → answer_to (dump_in state.entries tables) (y.ask (y.of_state how point) query)
+        ≡ held_to state (y.ask (y.of_state how point) query) }
 {
     unstopped_histories_answer_their_questions::<BaseMonomial>();
     agreement_is_having_the_same_rows::<BaseMonomial>();
@@ -121,8 +131,8 @@ pub fn unstopped_histories_answer_as_their_dumps()
 }
 
 /// The dump of a history answers every question as the history held it, and refuses it where the history did
-/// ([`unstopped_histories_answer_as_their_dumps`]): no transaction of a history stops. What would be with a change of a transaction is
-/// what the history held that would have been ([`changed_histories_answer_their_questions`]).
+/// ([`unstopped_histories_answer_as_their_dumps`]): no transaction of a history stops, and its rows are those that its log makes. What
+/// would be with changes is what the history held that would have been ([`changed_histories_answer_their_questions`]).
 pub fn histories_answer_as_their_dumps()
     ensures { (lines : List Line) (question : y.Question)
         → answer_to (dump_of (after unannotated parameters start lines)) question
@@ -137,6 +147,8 @@ pub fn histories_answer_as_their_dumps()
     a_version_has_one_row_of_an_identity();
     commits_publish_the_spans::<BaseMonomial>();
     identities_begin_with_their_committers::<BaseMonomial>();
+    agreement_is_having_the_same_rows::<()>();
+    histories_are_replayed_as_they_were();
     annotations_change_no_reply::<BaseMonomial, ()>()
 }
 
@@ -147,6 +159,8 @@ pub fn histories_answer_with_any_programs()
         ≡ answers.held_to programs (after monomials parameters start lines) question }
 {
     histories_answer_as_their_dumps();
+    agreement_is_having_the_same_rows::<()>();
+    histories_are_replayed_as_they_were();
     annotations_change_no_reply::<BaseMonomial, ()>()
 }
 
@@ -156,8 +170,9 @@ pub fn histories_answer_with_any_programs()
 pub fn histories_are_isolated()
     ensures reached { (lines : List Line) → IsIsolated (after monomials parameters start lines) }
     ensures lost { (lines : List Line) → LosesToFirst (after monomials parameters start lines) }
-    ensures remade { (dump : Dump) → IsDump dump → (change : y.LogChange) (entries : List Entry)
-        → changed_log parameters dump.entries change ≡ Ok entries → remaking_refusal entries ≡ None
+    ensures remade { (dump : Dump) → IsDump dump → (changes : List y.LogChange)
+        (entries : List Entry) → changed_log parameters dump.entries changes ≡ Ok entries
+        → remaking_refusal entries ≡ None
         → IsIsolated (replayed_state monomials (tables_in entries) entries) }
 {
     reached_states_are_histories::<BaseMonomial>();
@@ -210,39 +225,41 @@ pub fn deltas_are_differences()
 {}
 
 /// The commits of a log that keeps its sessions, made again without a stop, are a history of their own. A dump of the log and of the
-/// row versions that are made, in any order, answers every question about its states as that history held it. So no version of it
-/// differs, and no run passes a limit.
+/// row versions that are made, in any order, answers every query as that history held it, also of what a transaction saw that did not
+/// commit. So no version of it differs, and no run of one that committed passes a limit.
 pub fn replays_answer_as_their_histories()
     ensures { (entries : List Entry) → CommitsInOrder (log_of entries)
         → replay_stop unannotated (log_of entries) parameters (length (tables_in entries))
         (versions_in entries) ≡ None → (tables : List (List Span))
         → ((place : ℕ) → IsPermutation (table_spans tables place) (replayed_spans unannotated
         (log_of entries) (length (tables_in entries)) (versions_in entries) place))
-        → (how : y.How) (point : y.Point) (query : y.Query)
-        → answer_to (dump_in entries tables) (y.ask how point query)
-        ≡ held_to (replayed_state monomials (tables_in entries) entries) (y.ask how point query) }
+        → (subject : y.Subject) (query : y.Query)
+        → answer_to (dump_in entries tables) (y.ask subject query)
+        ≡ held_to (replayed_state monomials (tables_in entries) entries) (y.ask subject query) }
 {
     unstopped_histories_answer_as_their_dumps();
     histories_do_not_stop::<BaseMonomial>();
     annotations_change_no_replay::<BaseMonomial, ()>();
+    annotations_change_no_reply::<BaseMonomial, ()>();
     annotations_commute::<BaseMonomial, ()>()
 }
 
 /// A question about the history that would have been gets from a dump the answer of that history: the commits of the changed log,
-/// made again, are a history, which held its rows and their provenance (`held`). So no version of it differs, and no run passes
-/// a limit, once its commits were made again. The order of the row versions does not matter (`any_order`).
+/// made again, are a history, which held its rows and their provenance (`held`). So no version of it differs, and no run of a
+/// transaction that committed passes a limit, once its commits were made again. The order of the row versions does not matter
+/// (`any_order`).
 pub fn changed_histories_answer_their_questions()
-    ensures held { (entries : List Entry) (change : y.LogChange) → IsCoherent entries
-        → (how : y.How) (point : y.Point) (query : y.Query)
-        → what_if_answer entries change how point query
-        ≡ what_if_held entries change how point query }
+    ensures held { (entries : List Entry) (changes : List y.LogChange) → IsCoherent entries
+        → (subject : y.Subject) (query : y.Query)
+        → what_if_answer entries changes subject query
+        ≡ what_if_held entries changes subject query }
     ensures any_order { (entries : List Entry) → IsReplayable entries
         → stop_upto entries (versions_in entries) ≡ None → (tables : List (List Span))
         → ((place : ℕ) → IsPermutation (table_spans tables place) (replayed_spans unannotated
         (log_of entries) (length (tables_in entries)) (versions_in entries) place))
-        → (how : y.How) (point : y.Point) (query : y.Query)
-        → answer_to (dump_in entries tables) (y.ask how point query)
-        ≡ answer_to (replayed_dump entries) (y.ask how point query) }
+        → (subject : y.Subject) (query : y.Query)
+        → answer_to (dump_in entries tables) (y.ask subject query)
+        ≡ answer_to (replayed_dump entries) (y.ask subject query) }
 {
     replays_answer_as_their_histories();
     logs_keep_their_sessions();
@@ -283,7 +300,7 @@ pub fn row_versions_are_stored()
     well_formed_dumps_are_typed()
 }
 
-/// Every well-formed dump, whether a history made it or not, answers a question about what would be with a change as the history
+/// Every well-formed dump, whether a history made it or not, answers a question about what would be with changes as the history
 /// held it that would have been: the commits of the changed log, made again, lead to it.
 pub fn dumps_answer_as_changed_histories()
     ensures { (dump : Dump) → IsDump dump → (question : y.Question)
@@ -291,4 +308,62 @@ pub fn dumps_answer_as_changed_histories()
 {
     changed_histories_answer_their_questions();
     changed_logs_are_coherent()
+}
+
+/// Where nothing refuses to compare the rows of a dump with rows that are made, as `CAUSES` does and `DIFF` of the history with a changed
+/// one, each version of the dump has the rows that its log makes, each as often.
+pub fn compared_rows_are_made()
+    ensures { (dump : Dump) → unmade_refusal dump ≡ None → (version table : ℕ)
+        → version < versions_in dump.entries → table < length (tables_in dump.entries)
+        → IsPermutation
+        (identified (as_of unannotated (table_spans dump.tables) (suc version) table))
+        (identified (as_of unannotated (table_spans (replayed_dump dump.entries).tables) (suc version) table)) }
+{
+    agreement_is_having_the_same_rows::<()>()
+}
+
+/// So `CAUSES`, and `DIFF` with a changed history, answer as from the dump that the log makes, or are refused since its rows are others,
+/// where no rows are left out by their provenance: they blame no statement for rows that the log does not make.
+pub fn comparisons_answer_as_made_dumps()
+    ensures { (programs : Programs) (dump : Dump) → IsDump dump → (question : y.Question)
+        → compares_rows question ≡ true → AnswersAsMade programs dump question }
+{
+    compared_rows_are_made();
+    agreement_is_having_the_same_rows::<()>();
+    changed_logs_are_coherent();
+    replays_have_the_tables_of_their_logs()
+}
+
+/// `WHEN` agrees with `AS OF` at every version: the rows of the intervals that have a version are, as a bag, the answer over the version,
+/// whose rows are in order (`bags`), and where no version refuses the query, that is what `AS OF` answers (`rows`).
+pub fn intervals_agree_with_versions()
+    ensures bags { (answers : ℕ → List (List Cell))
+        → ((version : ℕ) → IsSorted row_cmp (answers version))
+        → (last version : ℕ) → version ≤ last
+        → IsPermutation (map (λ own. own.row) (filter (has_version version) (intervals answers last)))
+        (answers version) }
+    ensures rows { (dump : Dump) (query : y.Query) (version : ℕ)
+        → version ≤ versions_in dump.entries
+        → refusal_upto (query_to dump) query (versions_in dump.entries) ≡ None
+        → rows_in (answer_to dump (y.ask (y.of_state y.rows (y.as_of version)) query))
+        ≡ Ok (result_unwrap_or (version_rows (query_to dump) query version) []) }
+{}
+
+/// What the answer to SERIAL says of a history, by its dump: an order is that of a history in which its transactions run one after another
+/// and do what they did (`serial`), and each line of a cycle is true (`cycle`). No history is refused (`answered`).
+pub fn serial_answers_are_true()
+    ensures serial { (lines : List Line) (texts : List (List ℕ))
+        → serial_answer (dump_of (after unannotated parameters start lines)) ≡ Serial texts
+        → RunsSerially (after unannotated parameters start lines) texts }
+    ensures cycle { (lines : List Line) (texts : List (List ℕ))
+        → serial_answer (dump_of (after unannotated parameters start lines)) ≡ Cycle texts
+        → RunsInCycle (after unannotated parameters start lines) texts }
+    ensures answered { (lines : List Line)
+        → is_refused (serial_answer (dump_of (after unannotated parameters start lines))) ≡ false }
+{
+    serial_orders_are_histories();
+    spans_hold_the_versions::<()>();
+    commits_publish_the_spans::<()>();
+    changed_logs_are_coherent();
+    a_version_has_one_row_of_an_identity()
 }

@@ -32,6 +32,8 @@ mod answering;
 mod causes;
 mod changes;
 mod checked;
+mod conflicts;
+mod copying;
 mod deletion;
 mod deltas;
 mod differences;
@@ -39,15 +41,21 @@ mod display;
 mod exporting;
 mod format;
 mod hypothetical;
+mod intervals;
 mod keeping;
 mod laws;
 mod logs;
+mod looking;
+mod made;
 mod programs;
 mod provenance;
 mod queries;
+mod row_histories;
+mod row_lines;
 mod row_versions;
 mod rules;
 mod seeing;
+mod serial;
 mod sql;
 mod states;
 mod titles;
@@ -63,9 +71,10 @@ pub use gp_exec::{Backend, Plain};
 pub use keeping::KeptAnnotations;
 pub use laws::{
     changed_histories_answer_their_questions, changed_rows_are_those_written,
-    commits_show_what_they_wrote, deltas_are_differences, dumps_answer_as_changed_histories,
-    histories_answer_as_their_dumps, histories_answer_with_any_programs, histories_are_isolated,
+    commits_show_what_they_wrote, comparisons_answer_as_made_dumps, deltas_are_differences,
+    dumps_answer_as_changed_histories, histories_answer_as_their_dumps,
+    histories_answer_with_any_programs, histories_are_isolated, intervals_agree_with_versions,
     programs_explain_their_questions, queries_ask_their_questions, read_questions_are_valid,
-    replays_answer_as_their_histories, row_versions_are_stored,
+    replays_answer_as_their_histories, row_versions_are_stored, serial_answers_are_true,
     unstopped_histories_answer_as_their_dumps,
 };

@@ -16,7 +16,7 @@ use gp_log::{Entry, Log, What};
 use std::alloc::Global;
 
 /// Whether a transaction has this number.
-fn is_known(log: &Log, t: u64) -> bool
+pub(crate) fn is_known(log: &Log, t: u64) -> bool
     ensures { result ≡ is_known t (entries log.now) }
 {
     0 < t && t <= u64::from(log.transactions())

@@ -22,11 +22,9 @@ ghost use Rattle.gp_ask.specs.Keeping.{MayBeKeptOf};
 use crate::answered::Answered;
 use crate::queries::asked;
 use gp_algebra::Select;
-use gp_base::{Monomial, NoMemory, Row};
-use gp_check::CheckStop;
+use gp_base::{Monomial, NoMemory, Row, Stop};
 use gp_dump::Dump;
 use gp_history::{Kept, provenance_from};
-use gp_reenact::ReenactStop;
 use gp_semiring::list;
 use gp_syntax::{Point, Query};
 use std::alloc::Global;
@@ -39,7 +37,7 @@ fn rows_with_monomials(
     state: Point,
     select: &Select,
     kept: &mut Option<Kept<Monomial>>,
-) -> Result<Vec<Row>, ReenactStop>
+) -> Result<Vec<Row>, Stop>
     requires rules { IsAnswerable (dump_view dump.now) }
     requires fits { select_fits (tables_in (dump_view dump.now).entries) (select_view select.now)
         ≡ true }
@@ -78,8 +76,8 @@ fn selected_provenance(
 {
     match rows_with_monomials(alloc, dump, state, select, kept) {
         Ok(rows) => Ok(Answered::Listed(list(alloc, rows)?)),
-        Err(ReenactStop::Refused(refusal)) => Ok(Answered::Refused(refusal)),
-        Err(ReenactStop::NoMemory) => Err(NoMemory),
+        Err(Stop::Refused(refusal)) => Ok(Answered::Refused(refusal)),
+        Err(Stop::NoMemory) => Err(NoMemory),
     }
 }
 
@@ -98,11 +96,11 @@ pub fn provenance_answer(
     requires kept { MayBeKeptOf monomials dump.now kept.old }
     ensures kept { MayBeKeptOf monomials dump.now kept.new }
     ensures answered { IfOk result (λ answered. answered ≡ computed_answer (dump_view dump.now)
-        (y.ask y.provenance (point_view state) (query_view query.now))) }
+        (y.ask (y.of_state y.provenance (point_view state)) (query_view query.now))) }
 {
     match asked(alloc, &dump.log, state, query) {
         Ok(select) => selected_provenance(alloc, dump, state, &select, kept),
-        Err(CheckStop::Refused(refusal)) => Ok(Answered::Refused(refusal)),
-        Err(CheckStop::NoMemory) => Err(NoMemory),
+        Err(Stop::Refused(refusal)) => Ok(Answered::Refused(refusal)),
+        Err(Stop::NoMemory) => Err(NoMemory),
     }
 }

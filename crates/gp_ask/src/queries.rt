@@ -23,18 +23,18 @@ ghost use Rattle.gp_ask.specs.Backends.{AnswersBy, AnswersChecked, IsAnswered, p
 
 use crate::answered::Answered;
 use gp_algebra::Select;
-use gp_base::{NoMemory, Row, Sequence, sort_rows};
-use gp_check::{CheckStop, check_query};
+use gp_base::{NoMemory, Row, Sequence, Stop, sort_rows};
+use gp_check::check_query;
 use gp_dump::Dump;
 use gp_exec::{Backend, Plain};
 use gp_log::Log;
-use gp_reenact::{ReenactStop, log_refusal, reenact_by};
+use gp_reenact::{log_refusal, reenact_by};
 use gp_syntax::{Point, Query};
 use std::alloc::Global;
 
 /// A query over a state, checked. It is refused by the log, which has no such state (E20 to E23), or else by the check of names and
 /// types.
-pub fn asked(alloc: Global, log: &Log, state: Point, query: &Query) -> Result<Select, CheckStop>
+pub fn asked(alloc: Global, log: &Log, state: Point, query: &Query) -> Result<Select, Stop>
     ensures checked { Checks select_view result
         (a.asked (m.log_refusal (entries log.now) (point_view state))
         (checked_query (tables log.now) (query_view query.now))) }
@@ -45,7 +45,7 @@ pub fn asked(alloc: Global, log: &Log, state: Point, query: &Query) -> Result<Se
 {
     match log_refusal(log, state) {
         None => check_query(alloc, log.catalog(), query),
-        Some(refusal) => Err(CheckStop::Refused(refusal)),
+        Some(refusal) => Err(Stop::Refused(refusal)),
     }
 }
 
@@ -84,8 +84,8 @@ fn selected_answer<B: Backend>(
         backend,
     ) {
         Ok(rows) => sorted_answer(rows),
-        Err(ReenactStop::Refused(refusal)) => Ok(Answered::Refused(refusal)),
-        Err(ReenactStop::NoMemory) => Err(NoMemory),
+        Err(Stop::Refused(refusal)) => Ok(Answered::Refused(refusal)),
+        Err(Stop::NoMemory) => Err(NoMemory),
     }
 }
 
@@ -108,8 +108,8 @@ fn state_answer<B: Backend>(
 {
     match check_query(alloc, dump.log.catalog(), query) {
         Ok(select) => selected_answer(alloc, dump, state, &select, backend),
-        Err(CheckStop::Refused(refusal)) => Ok(Answered::Refused(refusal)),
-        Err(CheckStop::NoMemory) => Err(NoMemory),
+        Err(Stop::Refused(refusal)) => Ok(Answered::Refused(refusal)),
+        Err(Stop::NoMemory) => Err(NoMemory),
     }
 }
 
@@ -125,7 +125,7 @@ pub fn query_answer_by<B: Backend>(
     requires valid { tables_are_valid (tables_in (dump_view dump.now).entries) ≡ true }
     requires query { query_is_valid (query_view query.now) ≡ true }
     ensures { IfOk result (λ answered. AnswersBy (B.gives backend.now) (dump_view dump.now)
-        (y.ask y.rows (point_view state) (query_view query.now)) answered) }
+        (y.ask (y.of_state y.rows (point_view state)) (query_view query.now)) answered) }
 {
     match log_refusal(&dump.log, state) {
         None => state_answer(alloc, dump, state, query, backend),
@@ -144,7 +144,8 @@ pub fn query_answer(
     requires valid { tables_are_valid (tables_in (dump_view dump.now).entries) ≡ true }
     requires query { query_is_valid (query_view query.now) ≡ true }
     ensures { IfOk result (λ answered. answered
-        ≡ computed_answer (dump_view dump.now) (y.ask y.rows (point_view state) (query_view query.now))) }
+        ≡ computed_answer (dump_view dump.now)
+        (y.ask (y.of_state y.rows (point_view state)) (query_view query.now))) }
 {
     query_answer_by(alloc, dump, state, query, &Plain)
 }

@@ -36,7 +36,7 @@ fn span_lines(alloc: Global, spans: &[Span]) -> Result<Sequence<Text>, NoMemory>
 }
 
 /// The spans of a table; none if it is not there.
-fn spans_of(dump: &Dump, table: u32) -> &[Span]
+pub(crate) fn spans_of(dump: &Dump, table: u32) -> &[Span]
     ensures { result.now ≡ table_spans (dump_view dump.now).tables table }
 {
     match dump.versions.as_slice().get(table as usize) {

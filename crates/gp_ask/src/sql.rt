@@ -9,7 +9,7 @@ ghost use Rattle.gp_dump.specs.WholeDumps.{IsDump};
 ghost use Rattle.gp_grammar.specs.Syntax as y;
 ghost use Rattle.gp_log.specs.Contents.{HasPoint, StatementsFit, entries, tables};
 ghost use Rattle.gp_log.specs.LogFacts.{tables_in};
-ghost use Rattle.gp_syntax.specs.Views.{how_view, point_view, query_view, question_view};
+ghost use Rattle.gp_syntax.specs.Views.{how_view, point_view, query_view, question_view, subject_view};
 ghost use Rattle.gp_ask.specs.Answerable.{IsAnswerable, question_is_valid};
 ghost use Rattle.gp_ask.specs.Formats as f;
 ghost use Rattle.gp_ask.specs.Printed.{sql_answer_to, sql_ask_to};
@@ -20,14 +20,13 @@ ghost use Rattle.gp_ask.specs.declared.answered.Answered.TheVariants.{Program};
 use crate::answered::Answered;
 use crate::queries::asked;
 use gp_algebra::Select;
-use gp_base::{NoMemory, Refusal};
-use gp_check::CheckStop;
+use gp_base::{NoMemory, Refusal, Stop};
 use gp_dump::Dump;
 use gp_explain::explained_lines;
 use gp_log::Log;
-use gp_reenact::{ReenactStop, planned};
+use gp_reenact::planned;
 use gp_sql::write_query;
-use gp_syntax::{How, Point, Query, Question};
+use gp_syntax::{How, Point, Query, Question, Subject};
 use std::alloc::Global;
 
 /// The lines of the text of a checked query over a state that the log has.
@@ -48,8 +47,8 @@ fn selected_sql(
             let text = write_query(alloc, &program, log.catalog())?;
             Ok(Answered::Program(explained_lines(alloc, &text)?))
         }
-        Err(ReenactStop::Refused(_)) => unreachable!(),
-        Err(ReenactStop::NoMemory) => Err(NoMemory),
+        Err(Stop::Refused(_)) => unreachable!(),
+        Err(Stop::NoMemory) => Err(NoMemory),
     }
 }
 
@@ -64,8 +63,8 @@ fn state_answer(alloc: Global, log: &Log, state: Point, query: &Query) -> Result
 {
     match asked(alloc, log, state, query) {
         Ok(select) => selected_sql(alloc, log, state, &select),
-        Err(CheckStop::Refused(refusal)) => Ok(Answered::Refused(refusal)),
-        Err(CheckStop::NoMemory) => Err(NoMemory),
+        Err(Stop::Refused(refusal)) => Ok(Answered::Refused(refusal)),
+        Err(Stop::NoMemory) => Err(NoMemory),
     }
 }
 
@@ -82,24 +81,24 @@ fn are_asked(how: &How) -> bool
     }
 }
 
-/// Answers a question about a state.
+/// Answers a query, by what it is asked of.
 fn ask_in_sql(
     alloc: Global,
     dump: &Dump,
-    how: &How,
-    state: Point,
+    subject: &Subject,
     query: &Query,
 ) -> Result<Answered, NoMemory>
     requires rules { IsAnswerable (dump_view dump.now) }
     requires valid { tables_are_valid (tables_in (dump_view dump.now).entries) ≡ true }
     requires query { query_is_valid (query_view query.now) ≡ true }
     ensures { IfOk result (λ found. found ≡ f.in_sql (sql_answer_to (dump_view dump.now))
-        (y.ask (how_view how.now) (point_view state) (query_view query.now))) }
+        (y.ask (subject_view subject.now) (query_view query.now))) }
 {
-    if are_asked(how) {
-        state_answer(alloc, &dump.log, state, query)
-    } else {
-        Ok(Answered::Refused(Refusal::E30))
+    match subject {
+        Subject::State { how, state } if are_asked(how) => {
+            state_answer(alloc, &dump.log, *state, query)
+        }
+        _ => Ok(Answered::Refused(Refusal::E30)),
     }
 }
 
@@ -113,7 +112,7 @@ pub fn sql_answer(alloc: Global, dump: &Dump, question: &Question) -> Result<Ans
         ≡ f.in_sql (sql_answer_to (dump_view dump.now)) (question_view question.now)) }
 {
     match question {
-        Question::Ask { how, state, query } => ask_in_sql(alloc, dump, how, *state, query),
+        Question::Ask { subject, query } => ask_in_sql(alloc, dump, subject, query),
         _ => Ok(Answered::Refused(Refusal::E30)),
     }
 }

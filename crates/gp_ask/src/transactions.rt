@@ -43,30 +43,6 @@ fn fate_text(alloc: Global, fate: Fate) -> Result<Vec<u8>, NoMemory>
     }
 }
 
-/// The newest version when a transaction began.
-fn begin_version(log: &Log, t: u32) -> u32
-    requires first { 0 < t }
-    requires within { t ≤ m.transactions_in (entries log.now) }
-    ensures { result ≡ m.begin_version t (entries log.now) }
-{
-    match log.begin_version(t) {
-        Some(version) => version,
-        None => unreachable!(),
-    }
-}
-
-/// What has become of a transaction.
-fn fate_of(log: &Log, t: u32) -> Fate
-    requires first { 0 < t }
-    requires within { t ≤ m.transactions_in (entries log.now) }
-    ensures { result ≡ m.fate_of t (entries log.now) }
-{
-    match log.fate(t) {
-        Some(fate) => fate,
-        None => unreachable!(),
-    }
-}
-
 /// The line of a transaction, by the session and the level of its BEGIN.
 fn transaction_line(
     alloc: Global,
@@ -82,9 +58,9 @@ fn transaction_line(
 {
     let number = t.to_string(alloc)?;
     let session = session.to_string(alloc)?;
-    let begin = begin_version(log, t).to_string(alloc)?;
+    let begin = log.begin_version(t).to_string(alloc)?;
     let count = log.statement_count(t).to_string(alloc)?;
-    let fate = fate_text(alloc, fate_of(log, t))?;
+    let fate = fate_text(alloc, log.fate(t))?;
     let text = text_of_pieces(
         alloc,
         &[

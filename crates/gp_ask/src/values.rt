@@ -1,6 +1,7 @@
 //! The values of queries over past states in a semiring.
 
 ghost use Rattle.std.specs.Prelude.{◌≡◌, map, true, IfOk};
+ghost use Rattle.gp_grammar.specs.Syntax as y;
 ghost use Rattle.gp_algebra.specs.Fitting.{select_fits};
 ghost use Rattle.gp_algebra.specs.Views.{select_view};
 ghost use Rattle.gp_base.specs.declared.refusal.Refusal.TheVariants.{E28};
@@ -29,12 +30,10 @@ use crate::keeping::{KeptAnnotations, KeptValues, rows_with_values};
 use crate::queries::asked;
 use crate::rules::rules_of;
 use gp_algebra::Select;
-use gp_base::{NoMemory, Refusal, Sequence, Text};
-use gp_check::CheckStop;
+use gp_base::{NoMemory, Refusal, Sequence, Stop, Text};
 use gp_dump::Dump;
 use gp_grammar::SemiringName;
 use gp_kexec::KRow;
-use gp_reenact::ReenactStop;
 use gp_semiring::{Bool, Cost, Count, Level, Poly, PosBool, Rules, Semiring, first_outside};
 use gp_syntax::{How, Point, Query, Rule};
 use std::alloc::Global;
@@ -97,7 +96,8 @@ fn outside_refusal(
 
 /// E28 for the first number of the rules of VALUE IN that stands for no element.
 pub fn rules_refusal(alloc: Global, how: &How) -> Result<Option<Refusal>, NoMemory>
-    ensures { IfOk result (λ refusal. refusal ≡ h.rules_refusal (how_view how.now)) }
+    ensures { IfOk result (λ refusal. (point : y.Point)
+        → refusal ≡ h.rules_refusal (y.of_state (how_view how.now) point)) }
 {
     match how {
         How::Rows => Ok(None),
@@ -163,8 +163,8 @@ fn rows_by<K: Semiring>(
 {
     match rows_with_values::<K>(alloc, dump, state, select, rules, slot) {
         Ok(rows) => Ok(Answered::Values(valued_rows(alloc, rows.as_slice())?)),
-        Err(ReenactStop::Refused(refusal)) => Ok(Answered::Refused(refusal)),
-        Err(ReenactStop::NoMemory) => Err(NoMemory),
+        Err(Stop::Refused(refusal)) => Ok(Answered::Refused(refusal)),
+        Err(Stop::NoMemory) => Err(NoMemory),
     }
 }
 
@@ -263,7 +263,7 @@ pub fn value_answer(
             let rules = rules_of(alloc, rules, other)?;
             selected_values(alloc, dump, state, &select, name, rules, kept)
         }
-        Err(CheckStop::Refused(refusal)) => Ok(Answered::Refused(refusal)),
-        Err(CheckStop::NoMemory) => Err(NoMemory),
+        Err(Stop::Refused(refusal)) => Ok(Answered::Refused(refusal)),
+        Err(Stop::NoMemory) => Err(NoMemory),
     }
 }

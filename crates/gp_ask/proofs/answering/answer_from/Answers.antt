@@ -1,9 +1,9 @@
-use Rattle.std.proofs.Common.{sym, subst, ◌≡◌}
+use Rattle.std.proofs.Common.{true, sym, subst, ◌≡◌}
 use Rattle.std.specs.Prelude.{IfOk}
 use Rattle.std.proofs.lemmas.Bool.{and_parts}
-use Rattle.gp_check.specs.Valid.{query_is_valid}
+use Rattle.gp_check.specs.Valid.{condition_is_valid, query_is_valid}
 use Rattle.gp_syntax.specs.declared.question.Question.{Question}
-use Rattle.gp_syntax.specs.Views.{how_view, query_view, question_view, side_view, point_view}
+use Rattle.gp_syntax.specs.Views.{condition_view, query_view, question_view, side_view, subject_view}
 use Rattle.gp_dump.specs.Views.{dump_view}
 use Rattle.gp_ask.specs.Answerable.{has_few_items}
 use Rattle.gp_ask.specs.Computed.{computed_answer}
@@ -13,13 +13,6 @@ use Rattle.gp_ask.proofs.answering.answer_from.Goals as goal
 
 pub transactions_answer-requires : goal.transactions_answer-requires
 transactions_answer-requires c = record { rules = answerable (dump_view c.args.dump.now) c.requires.rules }
-
-pub saw_answer-requires-clause-rules : goal.saw_answer-requires-clause-rules
-saw_answer-requires-clause-rules c = answerable (dump_view c.args.dump.now) c.requires.rules
-
-pub saw_answer-requires-clause-query : goal.saw_answer-requires-clause-query
-saw_answer-requires-clause-query c =
-    (and_parts (query_is_valid (query_view c.in-Saw.query)) (has_few_items (query_view c.in-Saw.query)) (rw c.in-Saw.is at c.requires.question)).0
 
 pub changes_answer-requires : goal.changes_answer-requires
 changes_answer-requires c = record { rules = answerable (dump_view c.args.dump.now) c.requires.rules }
@@ -63,10 +56,33 @@ pub ask_answer-requires-clause-rules : goal.ask_answer-requires-clause-rules
 ask_answer-requires-clause-rules c = answerable (dump_view c.args.dump.now) c.requires.rules
 
 pub ask_answer-requires-clause-query : goal.ask_answer-requires-clause-query
-ask_answer-requires-clause-query c = (valid-parts (how_view c.in-Ask.how) (point_view c.in-Ask.state) (query_view c.in-Ask.query) (rw c.in-Ask.is at c.requires.question)).0
+ask_answer-requires-clause-query c = (valid-parts (subject_view c.in-Ask.subject) (query_view c.in-Ask.query) (rw c.in-Ask.is at c.requires.question)).0
 
 pub ask_answer-requires-clause-few : goal.ask_answer-requires-clause-few
-ask_answer-requires-clause-few c = (valid-parts (how_view c.in-Ask.how) (point_view c.in-Ask.state) (query_view c.in-Ask.query) (rw c.in-Ask.is at c.requires.question)).1
+ask_answer-requires-clause-few c = (valid-parts (subject_view c.in-Ask.subject) (query_view c.in-Ask.query) (rw c.in-Ask.is at c.requires.question)).1
+
+pub saw_program_answer-requires-clause-rules : goal.saw_program_answer-requires-clause-rules
+saw_program_answer-requires-clause-rules c = answerable (dump_view c.args.dump.now) c.requires.rules
+
+pub saw_program_answer-requires-clause-query : goal.saw_program_answer-requires-clause-query
+saw_program_answer-requires-clause-query c =
+    (and_parts (query_is_valid (query_view c.in-ExplainSaw.query)) (has_few_items (query_view c.in-ExplainSaw.query)) (rw c.in-ExplainSaw.is at c.requires.question)).0
+
+pub conflicts_answer-requires : goal.conflicts_answer-requires
+conflicts_answer-requires c = record { rules = answerable (dump_view c.args.dump.now) c.requires.rules }
+
+pub history_answer-requires-clause-rules : goal.history_answer-requires-clause-rules
+history_answer-requires-clause-rules c = answerable (dump_view c.args.dump.now) c.requires.rules
+
+pub history_answer-requires-clause-cond : goal.history_answer-requires-clause-cond
+history_answer-requires-clause-cond c = (and_parts (condition_is_valid (condition_view c.in-History.cond)) true (rw c.in-History.is at c.requires.question)).0
+
+pub when_answer-requires-clause-rules : goal.when_answer-requires-clause-rules
+when_answer-requires-clause-rules c = answerable (dump_view c.args.dump.now) c.requires.rules
+
+pub when_answer-requires-clause-query : goal.when_answer-requires-clause-query
+when_answer-requires-clause-query c =
+    (and_parts (query_is_valid (query_view c.in-When.query)) (has_few_items (query_view c.in-When.query)) (rw c.in-When.is at c.requires.question)).0
 
 pub returns-in-Diff-clause-answered : goal.returns-in-Diff-clause-answered
 returns-in-Diff-clause-answered c =
@@ -82,3 +98,8 @@ pub returns-in-Ask-clause-answered : goal.returns-in-Ask-clause-answered
 returns-in-Ask-clause-answered c =
     subst (λ (question : Question). IfOk c.ask_answer.result (λ answered. answered ≡ computed_answer (dump_view c.args.dump.now) (question_view question)))
     (sym c.in-Ask.is) c.ask_answer.ensures.answered
+
+pub returns-in-History-clause-answered : goal.returns-in-History-clause-answered
+returns-in-History-clause-answered c =
+    subst (λ (question : Question). IfOk c.history_answer.result (λ answered. answered ≡ computed_answer (dump_view c.args.dump.now) (question_view question)))
+    (sym c.in-History.is) c.history_answer.ensures

@@ -1,10 +1,10 @@
-use Rattle.std.proofs.Common.{Ok, ap, arith, refl, subst, suc, ◌∙◌, ◌≡◌}
+use Rattle.std.proofs.Common.{[], ◌∷◌, Ok, ap, arith, refl, subst, suc, ◌∙◌, ◌≡◌}
 use Rattle.std.proofs.lemmas.Result.{IfOk-weaker}
 use Rattle.gp_dump.specs.Views.{dump_view}
 use Rattle.gp_grammar.specs.Syntax as y
 use Rattle.gp_grammar.specs.Syntax.{LogChange}
 use Rattle.gp_log.specs.Parameters.{parameters}
-use Rattle.gp_syntax.specs.Views.{change_view, how_view, kept_view, query_view, point_view}
+use Rattle.gp_syntax.specs.Views.{change_view, query_view, subject_view}
 use Rattle.gp_whatif.specs.Changed.{changed_log}
 use Rattle.gp_ask.specs.declared.answered.Answered.{Answered}
 use Rattle.gp_ask.specs.Computed.{computed_answer, what_if_answer}
@@ -20,11 +20,11 @@ what_if_from-requires-clause-rules c = c.requires.asked.rules
 pub what_if_from-requires-clause-valid : goal.what_if_from-requires-clause-valid
 what_if_from-requires-clause-valid c = c.requires.asked.valid
 
-pub what_if_from-requires-clause-statement : goal.what_if_from-requires-clause-statement
-what_if_from-requires-clause-statement c = rw c.dropping-change.ensures refl
+pub what_if_from-requires-clause-statements : goal.what_if_from-requires-clause-statements
+what_if_from-requires-clause-statements c = rw c.dropping.ensures refl
 
-pub what_if_from-requires-clause-change : goal.what_if_from-requires-clause-change
-what_if_from-requires-clause-change c = rw c.dropping-change.ensures refl
+pub what_if_from-requires-clause-changes : goal.what_if_from-requires-clause-changes
+what_if_from-requires-clause-changes c = rw c.dropping.ensures refl
 
 pub what_if_from-requires-clause-query : goal.what_if_from-requires-clause-query
 what_if_from-requires-clause-query c = c.requires.asked.query
@@ -36,8 +36,8 @@ pub what_if_from-requires-clause-made : goal.what_if_from-requires-clause-made
 what_if_from-requires-clause-made c = λ new is.
     let dump = dump_view c.args.asked.now.dump.now in
     let replays = replayable dump c.requires.asked.rules in
-    let change : changed_log parameters dump.entries (y.drop c.args.own.t c.args.own.k) ≡ Ok new =
-    subst (λ (own : LogChange). changed_log parameters dump.entries own ≡ Ok new) c.dropping-change.ensures is in
+    let change : changed_log parameters dump.entries (y.drop c.args.own.t c.args.own.k ∷ []) ≡ Ok new =
+    subst (λ (own : LogChange). changed_log parameters dump.entries (own ∷ []) ≡ Ok new) c.dropping.ensures is in
     let within = c.changes_keep_earlier_versions.ensures.within dump.entries new c.args.own.t c.args.own.k (suc c.args.before) replays c.requires.version change in (
       omega (arith, within),
       c.changes_keep_earlier_versions.ensures.made dump.entries new c.args.own.t c.args.own.k (suc c.args.before) replays c.requires.version change c.args.before (omega arith) c.in_ok-copies.copies.items
@@ -47,9 +47,8 @@ what_if_from-requires-clause-made c = λ new is.
 pub returns : goal.returns
 returns c =
     let dump = dump_view c.args.asked.now.dump.now in
-    let how = how_view c.args.asked.now.kept.now.how in
-    let point = point_view c.args.asked.now.kept.now.state in
+    let subject = subject_view c.args.asked.now.subject.now in
     let query = query_view c.args.asked.now.query.now in
-    IfOk-weaker c.what_if_from.result (λ (a : Answered). a ≡ computed_answer dump (y.what_if (change_view c.dropping-change.result) how point query))
-    (λ (a : Answered). a ≡ without_in (what_if_answer dump.entries) (kept_view c.args.asked.now.kept.now) query (write_view c.args.own))
-    (λ a is. is ∙ ap (λ (change : LogChange). what_if_answer dump.entries change how point query) c.dropping-change.ensures) c.what_if_from.ensures.answered
+    IfOk-weaker c.what_if_from.result (λ (a : Answered). a ≡ computed_answer dump (y.what_if (change_view c.dropping.result ∷ []) subject query))
+    (λ (a : Answered). a ≡ without_in (what_if_answer dump.entries) subject query (write_view c.args.own))
+    (λ a is. is ∙ ap (λ (change : LogChange). what_if_answer dump.entries (change ∷ []) subject query) c.dropping.ensures) c.what_if_from.ensures.answered

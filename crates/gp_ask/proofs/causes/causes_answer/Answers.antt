@@ -1,20 +1,25 @@
-use Rattle.std.proofs.Common.{ap, sym, ◌∙◌}
+use Rattle.std.proofs.Common.{None, sym, ◌∙◌, ◌≡◌}
+use Rattle.std.specs.Option.{option_or}
+use Rattle.std.proofs.lemmas.Result.{IfOk-weaker}
 use Rattle.gp_dump.specs.Views.{dump_view}
-use Rattle.gp_syntax.specs.Views.{kept_view, query_view}
-use Rattle.gp_ask.specs.DifferenceForms.{causes_of, committed_writes, without_in}
-use Rattle.gp_ask.specs.Differences.{rows_in}
+use Rattle.gp_syntax.specs.Views.{query_view, subject_view}
+use Rattle.gp_ask.specs.declared.answered.Answered.{Answered}
 use Rattle.gp_ask.specs.Computed.{what_if_answer}
-use Rattle.gp_ask.proofs.ProvenanceLemmas.{answerable}
+use Rattle.gp_ask.specs.DifferenceForms.{causes_of, committed_writes, without_in}
+use Rattle.gp_ask.specs.Differences as d
+use Rattle.gp_ask.specs.Hypothetical.{asking_refusal}
+use Rattle.gp_ask.specs.Made.{unmade_refusal}
+use Rattle.gp_ask.specs.Printed.{query_to}
+use Rattle.gp_ask.proofs.WhatIfLemmas.{none_refused}
 use Rattle.gp_ask.proofs.causes.causes_answer.Goals as goal
 
-pub ask_answer-requires-clause-rules : goal.ask_answer-requires-clause-rules
-ask_answer-requires-clause-rules c = answerable (dump_view c.args.dump.now) c.requires.rules
-
-pub cause_lines-requires : goal.cause_lines-requires
-cause_lines-requires c = record { asked = record { rules = c.requires.rules; valid = c.requires.valid; query = c.requires.query; few = c.requires.few } }
-
-pub returns-in-Err-clause-answered : goal.returns-in-Err-clause-answered
-returns-in-Err-clause-answered c =
-    let entries = (dump_view c.args.dump.now).entries in
-    let without = without_in (what_if_answer entries) (kept_view c.args.own.now) (query_view c.args.query.now) in
-    sym (ap (causes_of without (committed_writes entries)) (sym (c.rows_in.ensures ∙ ap rows_in c.in_ok-answered.ensures.answered) ∙ c.in-Err.is))
+pub returns-in-None-clause-answered : goal.returns-in-None-clause-answered
+returns-in-None-clause-answered c =
+    let dump = dump_view c.args.dump.now in
+    let subject = subject_view c.args.subject.now in
+    let query = query_view c.args.query.now in
+    let answer : Answered = causes_of (without_in (what_if_answer dump.entries) subject query) (committed_writes dump.entries) (d.rows_in (query_to dump subject query)) in
+    let refusal = option_or (asking_refusal dump.entries subject query) (unmade_refusal dump) in
+    let none : refusal ≡ None = sym c.in_ok-refusal.ensures ∙ c.in-None.is in
+    IfOk-weaker c.caused_answer.result (λ (a : Answered). a ≡ answer) (λ (a : Answered). a ≡ d.causes_answer (query_to dump) (what_if_answer dump.entries) (unmade_refusal dump) dump.entries subject query)
+    (λ a is. is ∙ sym (none_refused refusal answer none)) c.caused_answer.ensures.answered

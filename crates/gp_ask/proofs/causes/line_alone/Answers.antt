@@ -1,8 +1,8 @@
-use Rattle.std.proofs.Common.{List, Option, ap, refl, ℕ, ◌∙◌, ◌≡◌}
+use Rattle.std.proofs.Common.{List, [], ◌∷◌, Option, ap, refl, ℕ, ◌∙◌, ◌≡◌}
 use Rattle.std.proofs.lemmas.Result.{IfOk-weaker}
 use Rattle.gp_dump.specs.Views.{dump_view}
 use Rattle.gp_grammar.specs.Syntax.{LogChange}
-use Rattle.gp_syntax.specs.Views.{how_view, query_view, point_view}
+use Rattle.gp_syntax.specs.Views.{query_view, subject_view}
 use Rattle.gp_ask.specs.Differences.{cause_of, rows_in}
 use Rattle.gp_ask.specs.Computed.{what_if_answer}
 use Rattle.gp_ask.specs.Writes.{IsLine, listed_line, write_view}
@@ -14,11 +14,11 @@ what_if_answer-requires-clause-rules c = c.requires.rules
 pub what_if_answer-requires-clause-valid : goal.what_if_answer-requires-clause-valid
 what_if_answer-requires-clause-valid c = c.requires.valid
 
-pub what_if_answer-requires-clause-statement : goal.what_if_answer-requires-clause-statement
-what_if_answer-requires-clause-statement c = rw c.dropping-change.ensures refl
+pub what_if_answer-requires-clause-statements : goal.what_if_answer-requires-clause-statements
+what_if_answer-requires-clause-statements c = rw c.dropping.ensures refl
 
-pub what_if_answer-requires-clause-change : goal.what_if_answer-requires-clause-change
-what_if_answer-requires-clause-change c = rw c.dropping-change.ensures refl
+pub what_if_answer-requires-clause-changes : goal.what_if_answer-requires-clause-changes
+what_if_answer-requires-clause-changes c = rw c.dropping.ensures refl
 
 pub what_if_answer-requires-clause-query : goal.what_if_answer-requires-clause-query
 what_if_answer-requires-clause-query c = c.requires.query
@@ -29,8 +29,7 @@ what_if_answer-requires-clause-few c = c.requires.few
 pub returns : goal.returns
 returns c =
     let dump = dump_view c.args.asked.now.dump.now in
-    let how = how_view c.args.asked.now.kept.now.how in
-    let point = point_view c.args.asked.now.kept.now.state in
+    let subject = subject_view c.args.asked.now.subject.now in
     let query = query_view c.args.asked.now.query.now in
     let rows = c.args.asked.now.rows.now in
     let own = write_view c.args.own in
@@ -38,5 +37,5 @@ returns c =
     (λ line is.
     is
     ∙ ap (cause_of rows own)
-    (c.rows_in.ensures ∙ ap rows_in (c.in_ok-without.ensures.answered ∙ ap (λ (change : LogChange). what_if_answer dump.entries change how point query) c.dropping-change.ensures)))
+    (c.rows_in.ensures ∙ ap rows_in (c.in_ok-without.ensures.answered ∙ ap (λ (change : LogChange). what_if_answer dump.entries (change ∷ []) subject query) c.dropping.ensures)))
     c.cause_line.ensures

@@ -15,7 +15,7 @@ use Rattle.gp_machine.specs.Entries.{Entry, statement_at}
 use Rattle.gp_reenact.proofs.HeldLemmas.{FitsIfSome, logged_fits}
 use Rattle.gp_reenact.specs.LookingForms.{Looks, looked_answer}
 use Rattle.gp_reenact.specs.Reenacting.{spans_of}
-use Rattle.gp_reenact.specs.declared.error.ReenactStop.TheVariants as stop
+use Rattle.gp_base.specs.declared.stop.Stop.TheVariants as stop
 use Rattle.gp_versions.specs.declared.span.Span.{Span}
 use Rattle.gp_ask.specs.declared.answered.Answered.TheVariants.{Changes, Refused}
 use Rattle.gp_ask.specs.Keyed.{shown_texts}

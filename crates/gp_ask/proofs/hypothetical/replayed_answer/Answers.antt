@@ -2,13 +2,13 @@ use Rattle.std.proofs.Common.{List, sym, subst, ◌∙◌, ◌≡◌}
 use Rattle.std.proofs.lemmas.Result.{IfOk-weaker}
 use Rattle.gp_grammar.specs.Syntax as y
 use Rattle.gp_log.specs.Logs.{log_view}
-use Rattle.gp_syntax.specs.Views.{how_view, query_view, point_view}
+use Rattle.gp_syntax.specs.Views.{query_view, subject_view}
 use Rattle.gp_versions.specs.Spans.{Versions}
 use Rattle.gp_dump.specs.Views.{tables_view}
 use Rattle.gp_ask.specs.declared.answered.Answered.{Answered}
 use Rattle.gp_ask.specs.Answerable.{IsAnswerable}
 use Rattle.gp_ask.specs.Computed.{computed_answer}
-use Rattle.gp_ask.specs.Printed.{ask_to}
+use Rattle.gp_ask.specs.Printed.{query_to}
 use Rattle.gp_ask.specs.Hypothetical as h
 use Rattle.gp_ask.specs.Values.{unless_refused}
 use Rattle.gp_ask.specs.Replays.{dump_in}
@@ -27,13 +27,12 @@ ask_answer-requires-clause-kept c = c.new-kept.ensures _
 pub returns-in-Ok : goal.returns-in-Ok
 returns-in-Ok c =
     let entries = log_view c.args.log.entries in
-    let how = how_view c.args.how.now in
-    let point = point_view c.args.state in
+    let subject = subject_view c.args.subject.now in
     let query = query_view c.args.query.now in
-    let expected : Answered = unless_refused (h.remaking_refusal entries) (ask_to (h.replayed_dump entries) how point query) in
-    IfOk-weaker c.ask_answer.result (λ (a : Answered). a ≡ computed_answer (dump_in entries (tables_view c.from_vec-versions.result)) (y.ask how point query)) (λ (a : Answered). a ≡ expected)
+    let expected : Answered = unless_refused (h.remaking_refusal entries) (query_to (h.replayed_dump entries) subject query) in
+    IfOk-weaker c.ask_answer.result (λ (a : Answered). a ≡ computed_answer (dump_in entries (tables_view c.from_vec-versions.result)) (y.ask subject query)) (λ (a : Answered). a ≡ expected)
     (λ a is.
     is
-    ∙ subst (λ (own : List Versions). ask_to (dump_in entries (tables_view own)) how point query ≡ expected) (sym c.from_vec-versions.ensures)
-    (replayed_is entries c.requires.replayable c.in-Ok.versions.items c.in-Ok.ensures.made c.changed_histories_answer_their_questions.ensures.any_order how point query))
+    ∙ subst (λ (own : List Versions). query_to (dump_in entries (tables_view own)) subject query ≡ expected) (sym c.from_vec-versions.ensures)
+    (replayed_is entries c.requires.replayable c.in-Ok.versions.items c.in-Ok.ensures.made c.changed_histories_answer_their_questions.ensures.any_order subject query))
     c.ask_answer.ensures.answered

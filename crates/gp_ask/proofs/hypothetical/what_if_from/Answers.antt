@@ -5,27 +5,27 @@ use Rattle.gp_check.specs.Valid.{tables_are_valid}
 use Rattle.gp_grammar.specs.Syntax as y
 use Rattle.gp_log.specs.Parameters.{parameters}
 use Rattle.gp_log.specs.Logs.{log_view}
-use Rattle.gp_syntax.specs.Views.{change_view, how_view, query_view, point_view}
+use Rattle.gp_syntax.specs.Views.{changes_view, query_view, subject_view}
 use Rattle.gp_dump.specs.Views.{dump_view}
 use Rattle.gp_ask.specs.declared.answered.Answered.{Answered}
 use Rattle.gp_ask.specs.Computed.{computed_answer}
-use Rattle.gp_ask.specs.Printed.{ask_to, remade_answer}
+use Rattle.gp_ask.specs.Printed.{query_to, remade_answer}
 use Rattle.gp_ask.specs.ExplainedTexts.{ExplainsQuestion}
 use Rattle.gp_ask.specs.Hypothetical.{replayed_dump}
 use Rattle.gp_ask.proofs.ProvenanceLemmas.{replayable}
-use Rattle.gp_ask.proofs.WhatIfLemmas.{changed_is, explains_changed, explains_refused}
+use Rattle.gp_ask.proofs.WhatIfLemmas.{changed_is, explains_changed}
 use Rattle.gp_ask.proofs.hypothetical.what_if_from.Goals as goal
 
 pub change-requires-clause-lines : goal.change-requires-clause-lines
-change-requires-clause-lines c = c.changed_lines_rise.ensures.double parameters (dump_view c.args.dump.now).entries c.requires.rules.log
+change-requires-clause-lines c = c.changed_lines_rise.ensures.lines parameters (dump_view c.args.dump.now).entries c.requires.rules.log
 
 pub remade_answer-requires-clause-replayable : goal.remade_answer-requires-clause-replayable
-remade_answer-requires-clause-replayable c = c.in-Ok.ensures.replayable (replayable (dump_view c.args.dump.now) c.requires.rules) c.requires.valid c.requires.change
+remade_answer-requires-clause-replayable c = c.in-Ok.ensures.replayable (replayable (dump_view c.args.dump.now) c.requires.rules) c.requires.valid c.requires.changes
 
 pub remade_answer-requires-clause-valid : goal.remade_answer-requires-clause-valid
 remade_answer-requires-clause-valid c =
     subst (λ (tables : List Table). tables_are_valid tables ≡ true)
-    (sym (c.changed_logs_are_replayable.ensures.tables parameters (dump_view c.args.dump.now).entries (log_view c.in-Ok.log.entries) (change_view c.args.change.now) c.in-Ok.ensures.changed))
+    (sym (c.changed_logs_are_replayable.ensures.tables parameters (dump_view c.args.dump.now).entries (log_view c.in-Ok.log.entries) (changes_view c.args.changes.now) c.in-Ok.ensures.changed))
     c.requires.valid
 
 pub remade_answer-requires-clause-within : goal.remade_answer-requires-clause-within
@@ -38,21 +38,19 @@ pub returns-in-Ok-clause-answered : goal.returns-in-Ok-clause-answered
 returns-in-Ok-clause-answered c =
     let entries = (dump_view c.args.dump.now).entries in
     let new = log_view c.in-Ok.log.entries in
-    let change = change_view c.args.change.now in
-    let how = how_view c.args.how.now in
-    let point = point_view c.args.state in
+    let changes = changes_view c.args.changes.now in
+    let subject = subject_view c.args.subject.now in
     let query = query_view c.args.query.now in
-    IfOk-weaker c.remade_answer.result (λ (a : Answered). a ≡ remade_answer (ask_to (replayed_dump new)) new how point query)
-    (λ (a : Answered). a ≡ computed_answer (dump_view c.args.dump.now) (y.what_if change how point query))
-    (λ a is. is ∙ sym (changed_is entries change how point query (Ok new) c.in-Ok.ensures.changed)) c.remade_answer.ensures.answered
+    IfOk-weaker c.remade_answer.result (λ (a : Answered). a ≡ remade_answer (query_to (replayed_dump new)) new subject query)
+    (λ (a : Answered). a ≡ computed_answer (dump_view c.args.dump.now) (y.what_if changes subject query))
+    (λ a is. is ∙ sym (changed_is entries changes subject query (Ok new) c.in-Ok.ensures.changed)) c.remade_answer.ensures.answered
 
 pub returns-in-Ok-clause-explained : goal.returns-in-Ok-clause-explained
 returns-in-Ok-clause-explained c =
     let entries = (dump_view c.args.dump.now).entries in
     let new = log_view c.in-Ok.log.entries in
-    let change = change_view c.args.change.now in
-    let how = how_view c.args.how.now in
-    let point = point_view c.args.state in
+    let changes = changes_view c.args.changes.now in
+    let subject = subject_view c.args.subject.now in
     let query = query_view c.args.query.now in
-    IfOk-weaker c.remade_answer.result (λ (a : Answered). ExplainsQuestion new (y.ask how point query)) (λ (a : Answered). ExplainsQuestion entries (y.what_if change how point query))
-    (λ a says. explains_changed entries change how point query new c.in-Ok.ensures.changed says) c.remade_answer.ensures.explained
+    IfOk-weaker c.remade_answer.result (λ (a : Answered). ExplainsQuestion new (y.ask subject query)) (λ (a : Answered). ExplainsQuestion entries (y.what_if changes subject query))
+    (λ a says. explains_changed entries changes subject query new c.in-Ok.ensures.changed says) c.remade_answer.ensures.explained

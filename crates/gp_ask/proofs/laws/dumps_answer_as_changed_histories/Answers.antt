@@ -5,5 +5,5 @@ use Rattle.gp_ask.proofs.laws.dumps_answer_as_changed_histories.Goals as goal
 pub returns : goal.returns
 returns c = λ dump rules question.
     remade-same dump
-    (λ change how point query.
-    c.changed_histories_answer_their_questions.ensures.held dump.entries change (c.changed_logs_are_coherent.ensures.replayable dump.entries (replayable dump rules)) how point query) question
+    (λ changes subject query.
+    c.changed_histories_answer_their_questions.ensures.held dump.entries changes (c.changed_logs_are_coherent.ensures.replayable dump.entries (replayable dump rules)) subject query) question

@@ -20,9 +20,9 @@ pub returns-clause-lost : goal.returns-clause-lost
 returns-clause-lost c = λ lines. (all-lose-rightly monomials parameters c.conflicts_are_least.ensures.some lines).lost
 
 pub returns-clause-remade : goal.returns-clause-remade
-returns-clause-remade c = λ dump rules change entries made none.
+returns-clause-remade c = λ dump rules changes entries made none.
     let coherent = c.changed_logs_are_coherent.ensures in
-    let own : IsCoherent entries = coherent.changed parameters dump.entries entries change targets-checked (coherent.replayable dump.entries (replayable dump rules)) made in
+    let own : IsCoherent entries = coherent.changed parameters dump.entries entries changes targets-checked (coherent.replayable dump.entries (replayable dump rules)) made in
     let forgets = c.annotations_commute.ensures.forgetting monomials in
     let unstopped =
     sym (c.annotations_change_no_replay.ensures.stops monomials unannotated forgotten forgets parameters (log_of entries) (length (tables_in entries)) (versions_in entries))

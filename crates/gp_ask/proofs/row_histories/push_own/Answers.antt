@@ -1,0 +1,19 @@
+use Rattle.std.proofs.Common.{Bool, Some, subst}
+use Rattle.std.specs.BTreeMap.{get}
+use Rattle.std.specs.Option.{is_some}
+use Rattle.std.specs.Prelude.{OnOk}
+use Rattle.gp_base.specs.Identities.{Identity, identity_cmp}
+use Rattle.gp_algebra.specs.Views.{statement_view}
+use Rattle.gp_dump.specs.Dumps.{Dump}
+use Rattle.gp_dump.specs.Views.{dump_view}
+use Rattle.gp_ask.specs.HistoryForms as f
+use Rattle.gp_ask.proofs.row_histories.push_own.Goals as goal
+
+pub returns : goal.returns
+returns c =
+    let dump : Dump = dump_view c.args.dump.now in
+    let own = c.args.own in
+    let rows = c.args.rows.now in
+    let old = c.args.lines.now.items in
+    let asked : Identity → Bool = λ (id : Identity). is_some (get identity_cmp rows.asked.now id) in
+    subst (λ table. OnOk c.push_writing.result (f.Pushes (f.statement_changes dump table asked c.args.version own.t own.k (Some (statement_view own.stmt.now))) old c.push_writing.new.lines.items)) c.if-own-rows.false c.push_writing.ensures

@@ -1,0 +1,68 @@
+-- Part of the statement: what the answers to SERIAL say of a history. An order is one of a history in which its transactions run one after another, each statement with
+-- the same changes, each query with the same rows, and with the same last version. Each line of a cycle is true of the history.
+use Rattle.std.specs.List.Sorted.{IsPermutation}
+use Rattle.std.specs.Prelude.{◌≡◌, ◌≢◌, ℕ, suc, ◌-◌, ◌<◌, ◌≤◌, Contains, true, List, [], ◌∷◌, map, Option, Some}
+use Rattle.std.specs.Fmt.{decimal}
+use Rattle.std.specs.List.{list_any}
+use Rattle.std.specs.Option.{option_map_or}
+use Rattle.gp_base.specs.Annotated.{unannotated}
+use Rattle.gp_algebra.specs.Statements.{Statement}
+use Rattle.gp_machine.specs.Entries.{committer_of, log_of, statement_at, statement_count, statement_version}
+use Rattle.gp_machine.specs.Looks.{looks}
+use Rattle.gp_machine.specs.Precedence.{Reason, ReadAfter, ReadBefore, Wrote, meets}
+use Rattle.gp_machine.specs.ReadBy.{start_by}
+use Rattle.gp_machine.specs.RowChanges.{RowChange}
+use Rattle.gp_machine.specs.SerialForms.{IsSerialAs, made_by}
+use Rattle.gp_machine.specs.SerialRuns.{serial_log}
+use Rattle.gp_machine.specs.State.{State}
+use Rattle.gp_ask.specs.Changes.{cells_in, changed_by}
+use Rattle.gp_ask.specs.SerialAnswers.{step_text}
+
+-- ---- an order
+
+-- the lines of an answer are the numbers of transactions that run so
+pub record RunsSerially (state : State (Unit {0})) (lines : List (List ℕ)) : Type 0 where
+  pub order : List ℕ
+  pub numbers : lines ≡ map decimal order
+  pub serial : IsSerialAs state order
+  pub changes : (t k : ℕ) (statement : Statement) → Contains order t → k < statement_count t state.entries → statement_at t (suc k) state.entries ≡ Some statement
+      → IsPermutation (changed_by t (suc k) statement (start_by unannotated (log_of state.entries) t k state.committed))
+      (changed_by t (suc k) statement (start_by unannotated (serial_log order (log_of state.entries)) t k (made_by state order).committed))
+
+-- ---- a cycle
+
+module _ (state : State (Unit {0})) where
+  -- a row that the commit of a transaction wrote, with its cells in the version before and in its own
+  pub record IsChangeBy (t : ℕ) (change : RowChange) : Type 0 where
+    pub maker : committer_of change.version state.entries ≡ t
+    pub first : 0 < change.version
+    pub before : cells_in change.row.identity (state.committed (change.version - 1) change.row.table) ≡ change.before
+    pub after : cells_in change.row.identity (state.committed change.version change.row.table) ≡ change.after
+
+  -- statement k of a transaction looks at it
+  abbrev pub LooksAt : ℕ → ℕ → RowChange → Type 0
+  LooksAt t k change = list_any (meets change) (option_map_or (looks state.catalogue) (statement_at t k state.entries) []) ≡ true
+
+  abbrev pub IsReason : ℕ → ℕ → Reason → Type 0
+  IsReason a b (ReadBefore k change) = IsChangeBy b change × (LooksAt a k change × (statement_version a k state.entries < change.version))
+  IsReason a b (ReadAfter k change) = IsChangeBy a change × (LooksAt b k change × (change.version ≤ statement_version b k state.entries))
+  IsReason a b (Wrote change other) = IsChangeBy a change × (IsChangeBy b other × ((change.row ≡ other.row) × (change.version < other.version)))
+
+  -- a line that says why a transaction comes before another one
+  pub record IsStep (a b : ℕ) (line : List ℕ) : Type 0 where
+    pub two : a ≢ b
+    pub reason : Reason
+    pub is : IsReason a b reason
+    pub text : line ≡ step_text state.catalogue state.entries (record { first = a; next = b; reason = Some reason })
+
+  -- a line from each to the next one, and from the last to this one
+  abbrev pub AreSteps : ℕ → List ℕ → List (List ℕ) → Type 0
+  AreSteps first (a ∷ []) (line ∷ []) = IsStep a first line
+  AreSteps first (a ∷ b ∷ others) (line ∷ lines) = IsStep a b line × AreSteps first (b ∷ others) lines
+  AreSteps first _ _ = ⊥
+
+  -- the lines of an answer are those of a cycle
+  pub record RunsInCycle (lines : List (List ℕ)) : Type 0 where
+    pub first : ℕ
+    pub others : List ℕ
+    pub steps : AreSteps first (first ∷ others) lines
