@@ -37,10 +37,6 @@ BeginsRead [] = ⊥
 BeginsRead (Read name most bytes ∷ events) = Unit {0}
 BeginsRead (event ∷ events) = ⊥
 
-abbrev IsSome : List Event → Type 0
-IsSome [] = ⊥
-IsSome (event ∷ events) = Unit {0}
-
 -- ---- the steps of a command, in order
 
 missing-steps : (command : Command) (before : List Event) (name : List ℕ) (most : ℕ) → IsReadBy command before name most → FollowsSteps (Some command) (before ++ Missing name ∷ [])

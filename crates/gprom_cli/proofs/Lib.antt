@@ -8,11 +8,9 @@ pub mod WritesLemmas
 pub mod LinesLemmas
 pub mod AnswersLemmas
 pub mod HeadingLemmas
-pub mod EngineLemmas
 pub mod OutcomeLemmas
 pub mod StepsLemmas
 pub mod ToldLemmas
 pub mod EventLemmas
 pub mod PromisesLemmas
 pub mod OverFilesLemmas
-pub mod UnchangedLemmas

@@ -13,7 +13,7 @@ use Rattle.gp_base.specs.declared.table.Table.{Table}
 use Rattle.gp_csv.specs.Answers.{csv_text}
 use Rattle.gp_grammar.specs.Syntax as y
 use Rattle.gp_ask.specs.declared.answered.Answered.{Answered}
-use Rattle.gp_ask.specs.declared.answered.Answered.TheVariants.{Rows, Listed, Values, Log, Versions, Program, Transactions, Changes, Diff, Causes, Checked, Refused, Sheet}
+use Rattle.gp_ask.specs.declared.answered.Answered.TheVariants.{Rows, Listed, Values, Log, Versions, Program, Transactions, Changes, Conflicts, History, When, Diff, Causes, Checked, Cycle, Refused, Serial, Sheet, Undecided}
 use Rattle.gp_ask.specs.declared.format.Format.{Format}
 use Rattle.gp_ask.specs.declared.format.Format.TheVariants.{Text, Csv, Named, Sql}
 use Rattle.gp_ask.specs.Formats.{exported_records, sql_answer_text, sql_refusal, text_in}
@@ -98,6 +98,12 @@ text-ends number (Versions texts) = listed-ends number (codes "versions") texts
 text-ends number (Program texts) = listed-ends number (codes "program") texts
 text-ends number (Transactions texts) = listed-ends number (codes "transactions") texts
 text-ends number (Changes texts) = listed-ends number (codes "changes") texts
+text-ends number (Conflicts texts) = listed-ends number (codes "conflicts") texts
+text-ends number (History texts) = listed-ends number (codes "history") texts
+text-ends number (When texts) = listed-ends number (codes "when") texts
+text-ends number (Serial texts) = listed-ends number (codes "serial") texts
+text-ends number (Cycle texts) = listed-ends number (codes "cycle") texts
+text-ends number Undecided = listed-ends number (codes "undecided") []
 text-ends number (Diff rows) = listed-ends number (codes "diff") (map signed_text rows)
 text-ends number (Causes texts) = listed-ends number (codes "causes") texts
 text-ends number (Checked line) = numbered-ends number (checked_text line) (checked-ends line)
@@ -132,6 +138,12 @@ sql-ends number (Log texts) = refusal-ends number E30
 sql-ends number (Versions texts) = refusal-ends number E30
 sql-ends number (Transactions texts) = refusal-ends number E30
 sql-ends number (Changes texts) = refusal-ends number E30
+sql-ends number (Conflicts texts) = refusal-ends number E30
+sql-ends number (History texts) = refusal-ends number E30
+sql-ends number (When texts) = refusal-ends number E30
+sql-ends number (Serial texts) = refusal-ends number E30
+sql-ends number (Cycle texts) = refusal-ends number E30
+sql-ends number Undecided = refusal-ends number E30
 sql-ends number (Diff rows) = refusal-ends number E30
 sql-ends number (Causes texts) = refusal-ends number E30
 sql-ends number (Checked line) = refusal-ends number E30

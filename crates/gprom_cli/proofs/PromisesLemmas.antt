@@ -46,11 +46,15 @@ use Rattle.gp_ask.specs.Asking.{Programs}
 use Rattle.gp_ask.specs.Programs.{program_lines, programs_in, sql_lines}
 use Rattle.gp_ask.specs.SqlAnswers.{AreStored, AsksLines}
 use Rattle.gp_ask.specs.declared.answered.Answered as reply
+use Rattle.gp_ask.specs.Compared.{AnswersAsMade, compares_rows}
 use Rattle.gp_ask.specs.Explained.{ExplainsLines}
 use Rattle.gp_ask.specs.Hypothetical.{remaking_refusal, replayed_dump}
 use Rattle.gp_ask.specs.Isolated.{IsIsolated, LosesToFirst}
 use Rattle.gp_whatif.specs.Changed.{changed_log}
 use Rattle.gp_ask.specs.Questions.{AreQuestions, ReadQuestion}
+use Rattle.gp_ask.specs.SerialAnswers.{serial_answer}
+use Rattle.gp_ask.specs.SerialHistories.{RunsInCycle, RunsSerially}
+use Rattle.gp_ask.specs.declared.answered.Answered.TheVariants.{Cycle, Serial}
 use Rattle.gprom_cli.specs.declared.load.TheConstants.{MAX_SHEET_LENGTH}
 use Rattle.gprom_cli.specs.declared.status.Status.{Status}
 use Rattle.gprom_cli.specs.declared.status.Status.TheVariants as exit
@@ -164,10 +168,15 @@ pub record DumpLaws : Type 0 where
   pub programs : (tables : List Table) (program other : PlainProgram) → HaveDifferentNames tables → is_spellable tables program ≡ true → is_spellable tables other ≡ true
       → program_text tables program ≡ program_text tables other → program ≡ other
   pub queries : (tables : List Table) (text : List ℕ) (query other : With) → HaveOwnNames tables → SpellsQuery tables query text → SpellsQuery tables other text → query ≡ other
+  pub compared : (programs : Programs) (dump : Dump) → IsDump dump → (question : y.Question) → compares_rows question ≡ true → AnswersAsMade programs dump question
   pub isolated : (lines : List Line) → IsIsolated (after monomials parameters start lines)
   pub lost : (lines : List Line) → LosesToFirst (after monomials parameters start lines)
-  pub remade : (dump : Dump) → IsDump dump → (change : y.LogChange) (entries : List Entry) → changed_log parameters dump.entries change ≡ Ok entries
+  pub remade : (dump : Dump) → IsDump dump → (changes : List y.LogChange) (entries : List Entry) → changed_log parameters dump.entries changes ≡ Ok entries
       → remaking_refusal entries ≡ None → IsIsolated (replayed_state monomials (tables_in entries) entries)
+  pub serial : (lines : List Line) (texts : List (List ℕ)) → serial_answer (dump_of (after unannotated parameters start lines)) ≡ Serial texts
+      → RunsSerially (after unannotated parameters start lines) texts
+  pub cycle : (lines : List Line) (texts : List (List ℕ)) → serial_answer (dump_of (after unannotated parameters start lines)) ≡ Cycle texts
+      → RunsInCycle (after unannotated parameters start lines) texts
 
 -- of a state of a script, by its lines
 by-lines : (P : State (Unit {0}) → Type 0) (script : List ℕ) (lines : List ReadLine) → IsScript script lines → P (final_state unannotated script) → P (last_state unannotated lines)
@@ -198,9 +207,14 @@ promised laws call has = record {
   checked = λ bytes contents formed none.
       let history = laws.checked contents (dumps.whole-text bytes contents formed).rules none in
       (history, λ format question. ap (λ (own : Dump). answer_to (programs_in format) own question) history.is ∙ laws.held (programs_in format) history.lines question);
+  compared = λ format bytes contents question formed is. laws.compared (programs_in format) contents (dumps.whole-text bytes contents formed).rules question is;
   isolated = λ lines. subst IsIsolated (sym (state-taken monomials lines start)) (laws.isolated (taken lines));
   lost = λ lines. subst LosesToFirst (sym (state-taken monomials lines start)) (laws.lost (taken lines));
-  remade = λ bytes contents change entries formed made none. laws.remade contents (dumps.whole-text bytes contents formed).rules change entries made none;
+  remade = λ bytes contents changes entries formed made none. laws.remade contents (dumps.whole-text bytes contents formed).rules changes entries made none;
+  serial = λ lines texts. subst (λ (state : State (Unit {0})). serial_answer (dump_of state) ≡ Serial texts → RunsSerially state texts) (sym (state-taken unannotated lines start))
+      (laws.serial (taken lines) texts);
+  cycle = λ lines texts. subst (λ (state : State (Unit {0})). serial_answer (dump_of state) ≡ Cycle texts → RunsInCycle state texts) (sym (state-taken unannotated lines start))
+      (laws.cycle (taken lines) texts);
 }
 
 -- ---- what follows

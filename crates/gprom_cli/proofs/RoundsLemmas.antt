@@ -16,7 +16,7 @@ use Rattle.gp_ask.specs.declared.format.Format.TheVariants.{Named}
 use Rattle.gprom_cli.specs.declared.args.Command as code
 use Rattle.gprom_cli.specs.declared.args.Command.TheVariants as command
 use Rattle.gprom_cli.specs.declared.generated.TheConstants.{MAX_ROUNDS}
-use Rattle.gprom_cli.specs.Args.{Run, Ask, Generate, Load, Help, Version, are_words, asks_help, asks_version, command_of, command_of_words, format_of, is_word, rounds_of, table_name}
+use Rattle.gprom_cli.specs.Args.{Run, Ask, Generate, Load, Help, Version, are_two_names, are_words, asks_help, asks_version, command_of, command_of_words, format_of, is_word, rounds_of, table_name}
 use Rattle.gprom_cli.specs.Views.{HasFewRounds, command_view}
 
 -- ---- reading
@@ -120,9 +120,9 @@ few-words : (words : List (List ℕ)) (n : ℕ) → command_of_words words ≡ S
 few-words [] n at = absurd cc
 few-words (word ∷ []) n at = absurd cc
 few-words (word ∷ first ∷ []) n at = few-if (bytes_eq word (codes "gen")) first n at
-few-words (word ∷ first ∷ second ∷ []) n at = no-names (bytes_eq word (codes "run") && is_word second) (format_of word) first second n at
+few-words (word ∷ first ∷ second ∷ []) n at = no-names (bytes_eq word (codes "run") && (is_word second && are_two_names first second)) (format_of word) first second n at
 few-words (word ∷ first ∷ second ∷ third ∷ []) n at =
-    no-export (bytes_eq word (codes "export") && bytes_eq third (codes "names")) (bytes_eq word (codes "load")) first second third (table_name second) n at
+    no-export (bytes_eq word (codes "export") && bytes_eq third (codes "names")) (bytes_eq word (codes "load") && are_two_names first third) first second third (table_name second) n at
 few-words (word ∷ first ∷ second ∷ third ∷ other ∷ others) n at = absurd cc
 
 few-asked : (plain : Bool) (words : List (List ℕ)) (n : ℕ) → cond plain (command_of_words words) None ≡ Some (Generate n) → n ≤ MAX_ROUNDS

@@ -3,13 +3,14 @@ use Rattle.std.proofs.Common.{◌≡◌, ℕ, suc, ◌≤◌, Bool, true, false,
 use Rattle.std.specs.Prelude.{IfOk, ◌||◌, ◌-◌}
 use Rattle.std.specs.List.{sum_by}
 use Rattle.std.specs.Option.{option_map, option_map_or, option_or}
+use Rattle.std.specs.Result.{result_unwrap_or}
 use Rattle.std.specs.Ordering.{is_eq}
 use Rattle.std.proofs.lemmas.Bool.Decides.{nat_tests}
 use Rattle.std.proofs.lemmas.List.{length-map}
 use Rattle.std.proofs.lemmas.List.Sums.{sum_by-cons}
 use Rattle.gp_base.specs.declared.cell.Cell.{Cell}
 use Rattle.gp_base.specs.declared.refusal.Refusal.{Refusal}
-use Rattle.gp_base.specs.declared.refusal.Refusal.TheVariants.{E27}
+use Rattle.gp_base.specs.declared.refusal.Refusal.TheVariants.{E04, E27}
 use Rattle.gp_base.specs.Order.{row_cmp, sorted_by}
 use Rattle.gp_base.specs.Tokens.{Monomial}
 use Rattle.gp_base.specs.Annotated.{monomials, unannotated}
@@ -28,7 +29,7 @@ use Rattle.gp_base.specs.Catalogs.{place_of}
 use Rattle.gp_versions.specs.declared.span.Span.{Span}
 use Rattle.gp_syntax.specs.Lines.{script_lines}
 use Rattle.gp_machine.specs.Annotating.{annotated_versions}
-use Rattle.gp_machine.specs.Entries.{Entry, log_of, statement_at, version_of}
+use Rattle.gp_machine.specs.Entries.{Entry, log_of, statement_at, statement_count, version_of, versions_in}
 use Rattle.gp_machine.specs.Event.{name_at}
 use Rattle.gp_machine.specs.HistorySpans.{as_of}
 use Rattle.gp_machine.specs.Points.{at_point, run_stop}
@@ -48,21 +49,29 @@ use Rattle.gp_history.specs.ValueAnswers.{all_elements, history_refusal, limited
 use Rattle.gp_history.specs.ValueForms.{value_answer}
 use Rattle.gp_history.specs.Agreement.{agree}
 use Rattle.gp_ask.specs.declared.answered.Answered.{Answered}
-use Rattle.gp_ask.specs.declared.answered.Answered.TheVariants.{Changes, Diff, Refused}
+use Rattle.gp_ask.specs.declared.answered.Answered.TheVariants.{Changes, Diff, History, Program, Refused, When}
 use Rattle.gp_ask.specs.ChangeForms.{version_changes}
+use Rattle.gp_machine.specs.RowChanges.{tables_changes}
+use Rattle.gp_serial.specs.Serializing.{InCycle, InOrder, Serial, Undecided, runs_refusal, serial_of}
+use Rattle.gp_ask.specs.SerialAnswers.{answered_serial}
 use Rattle.gp_ask.specs.Changes.{Change, change_texts, changes_over}
-use Rattle.gp_ask.specs.Seeing.{dump_saw}
+use Rattle.gp_ask.specs.Made.{unmade_refusal}
+use Rattle.gp_ask.specs.Intervals.{Interval, interval_cmp, interval_lines, interval_text, intervals, refusal_upto, version_rows}
+use Rattle.gp_ask.specs.RowHistories.{all_of, dump_history, stop_upto}
+use Rattle.gp_ask.specs.Looked.{stop_at}
+use Rattle.gp_ask.specs.Seeing.{dump_saw, seen_refusal, unknown_refusal}
 use Rattle.gp_compose.specs.Seen.{changes_refusal, saw_refusal}
 use Rattle.gp_reenact.specs.Looking.{saw_answer}
 use Rattle.gp_ask.specs.Computed.{computed_answer, what_if_answer}
 use Rattle.gp_ask.specs.Asking.{element_cmp, grouped, of_elements, put_first, query_answer, table_spans, with_monomials}
-use Rattle.gp_ask.specs.Printed.{ask_to, changed_answer}
+use Rattle.gp_ask.specs.Printed.{ask_to, changed_answer, query_to}
+use Rattle.gp_ask.specs.Programs.{program_lines}
 use Rattle.gp_ask.specs.AskingForms.{dump_program, dump_provenance, dump_remaining, dump_rows, rules_of, versions_answer}
 use Rattle.gp_ask.specs.ValueForms.{dump_minimal, dump_valued, dump_values}
 use Rattle.gp_ask.specs.Deltas.{Signed, delta, with_sign}
 use Rattle.gp_ask.specs.Differences as answers
 use Rattle.gp_ask.specs.DifferenceForms.{causes_of, committed_writes, diff_of, without_in}
-use Rattle.gp_ask.specs.Differences.{side_answer}
+use Rattle.gp_ask.specs.Differences.{mixed_refusal, side_answer}
 use Rattle.gp_ask.specs.Hypothetical.{asking_refusal, remaking_refusal, replayed_dump}
 use Rattle.gp_ask.specs.Operations.{number_refusal, operations_of, value_of}
 use Rattle.gp_ask.specs.Values.{or_refused, rule_of, unless_refused, valued, with_values}
@@ -225,20 +234,7 @@ few-ask dump (y.without patterns) point query =
     few-checked (dump_remaining (map rule_of patterns) dump point) (log_refusal dump.entries point) (checked_query (tables_in dump.entries) query)
     (λ select. few-remaining dump point select (map rule_of patterns))
 
--- ---- questions about changes
-
-few-remade : (entries : List Entry) (how : y.How) (point : y.Point) (query : y.Query)
-    → HasFew (unless_refused (asking_refusal entries how point query) (unless_refused (remaking_refusal entries) (ask_to (replayed_dump entries) how point query)))
-few-remade entries how point query =
-    few-unless (asking_refusal entries how point query) _ (few-unless (remaking_refusal entries) _ (few-ask (replayed_dump entries) how point query))
-
-few-changed : (found : Result (List Entry) Refusal) (how : y.How) (point : y.Point) (query : y.Query) → HasFew (changed_answer (λ own. ask_to (replayed_dump own)) found how point query)
-few-changed (Err refusal) how point query = omega arith
-few-changed (Ok entries) (y.explain prov) point query = few-ask (dump_in entries []) (y.explain prov) point query
-few-changed (Ok entries) y.rows point query = few-remade entries y.rows point query
-few-changed (Ok entries) y.provenance point query = few-remade entries y.provenance point query
-few-changed (Ok entries) (y.value name rules other) point query = few-remade entries (y.value name rules other) point query
-few-changed (Ok entries) (y.without patterns) point query = few-remade entries (y.without patterns) point query
+-- ---- what a transaction saw
 
 few-saw : (entries : List Entry) (spans : ℕ → List Span) (t k : ℕ) (query : Select) → AreFew (saw_answer parameters entries spans t k query)
 few-saw entries spans t k query =
@@ -246,6 +242,28 @@ few-saw entries spans t k query =
     let stop = option_map stop_refusal (run_stop unannotated parameters (log_of entries) t k (as_of unannotated spans)) in
     let over = answer_refusal unannotated parameters elements in
     behind elements (saw_refusal t k entries) (option_or stop over) (behind elements stop over (limit elements))
+
+few-query : (dump : Dump) (subject : y.Subject) (query : y.Query) → HasFew (query_to dump subject query)
+few-query dump (y.of_state how point) query = few-ask dump how point query
+few-query dump (y.saw t k) query =
+    few-checked (dump_saw dump t k) (saw_refusal t k dump.entries) (checked_query (tables_in dump.entries) query)
+    (λ select. few-elements (saw_answer parameters dump.entries (table_spans dump.tables) t k select) (few-saw dump.entries (table_spans dump.tables) t k select))
+
+-- ---- questions about changed logs
+
+few-remade : (entries : List Entry) (subject : y.Subject) (query : y.Query)
+    → HasFew (unless_refused (asking_refusal entries subject query) (unless_refused (remaking_refusal entries) (query_to (replayed_dump entries) subject query)))
+few-remade entries subject query =
+    few-unless (asking_refusal entries subject query) _ (few-unless (remaking_refusal entries) _ (few-query (replayed_dump entries) subject query))
+
+few-changed : (found : Result (List Entry) Refusal) (subject : y.Subject) (query : y.Query) → HasFew (changed_answer (λ own. query_to (replayed_dump own)) found subject query)
+few-changed (Err refusal) subject query = omega arith
+few-changed (Ok entries) (y.of_state (y.explain prov) point) query = few-ask (dump_in entries []) (y.explain prov) point query
+few-changed (Ok entries) (y.of_state y.rows point) query = few-remade entries (y.of_state y.rows point) query
+few-changed (Ok entries) (y.of_state y.provenance point) query = few-remade entries (y.of_state y.provenance point) query
+few-changed (Ok entries) (y.of_state (y.value name rules other) point) query = few-remade entries (y.of_state (y.value name rules other) point) query
+few-changed (Ok entries) (y.of_state (y.without patterns) point) query = few-remade entries (y.of_state (y.without patterns) point) query
+few-changed (Ok entries) (y.saw t k) query = few-remade entries (y.saw t k) query
 
 -- ---- changes have no rows
 
@@ -278,21 +296,56 @@ few-causes : (without : ℕ × ℕ → Answered) (statements : List (ℕ × ℕ)
 few-causes without statements (Err refusal) = omega arith
 few-causes without statements (Ok rows) = omega arith
 
+few-serial : (tables : List Table) (entries : List Entry) (serial : Serial) → HasFew (answered_serial tables entries serial)
+few-serial tables entries (InOrder order) = omega arith
+few-serial tables entries (InCycle steps) = omega arith
+few-serial tables entries Undecided = omega arith
+
+-- ---- what became of rows, and when they were there
+
+few-history : (texts : List (List ℕ)) (over : Bool) → HasFew (cond over (Refused E27) (History texts))
+few-history texts true = omega arith
+few-history texts false = omega arith
+
+few-when : (texts : List (List ℕ)) (over : Bool) → HasFew (cond over (Refused E27) (When texts))
+few-when texts true = omega arith
+few-when texts false = omega arith
+
+few-intervals : (own : List Interval) → HasFew (interval_lines own)
+few-intervals own = few-when (map interval_text (sorted_by interval_cmp own)) (nat_lt parameters.answer (length own))
+
+few-rows-of : (dump : Dump) (place : Option ℕ) (name : List ℕ) (checked : Result Select Refusal)
+    → HasFew (or_refused (λ (select : Select). option_map_or (λ (own : ℕ). dump_history dump own select) place (Refused (E04 name))) checked)
+few-rows-of dump place name (Err refusal) = omega arith
+few-rows-of dump None name (Ok select) = omega arith
+few-rows-of dump (Some place) name (Ok select) = few-unless (stop_upto dump (versions_in dump.entries)) _ (few-history _ _)
+
 few-answer : (dump : Dump) (question : y.Question) → HasFew (computed_answer dump question)
 few-answer dump (y.log t) = few-log (is_known t dump.entries) _ _ refl refl
 few-answer dump (y.versions name) = few-versions name dump.tables (place_of name (tables_in dump.entries))
 few-answer dump y.transactions = omega arith
-few-answer dump (y.saw t k query) =
-    few-checked (dump_saw dump t k) (saw_refusal t k dump.entries) (checked_query (tables_in dump.entries) query)
-    (λ select. few-elements (saw_answer parameters dump.entries (table_spans dump.tables) t k select) (few-saw dump.entries (table_spans dump.tables) t k select))
 few-answer dump (y.changes t k) = few-unless (changes_refusal t k dump.entries) _ (few-any dump t (k - 1) (statement_at t k dump.entries))
 few-answer dump (y.commit_changes t) = few-unless (transaction_refusal t dump.entries) _ (few-version dump (version_of t dump.entries))
+few-answer dump (y.conflicts t) = few-unless (unknown_refusal t dump.entries) _ (few-unless (stop_at dump t (statement_count t dump.entries)) _ (omega arith))
+few-answer dump (y.history name cond) = few-rows-of dump (place_of name (tables_in dump.entries)) name (checked_query (tables_in dump.entries) (all_of name cond))
+few-answer dump (y.when query) =
+    few-unless (refusal_upto (query_to dump) query (versions_in dump.entries)) _
+    (few-intervals (intervals (λ version. result_unwrap_or (version_rows (query_to dump) query version) []) (versions_in dump.entries)))
+few-answer dump y.serial =
+    few-unless (runs_refusal parameters dump.entries (table_spans dump.tables) (versions_in dump.entries)) _
+    (few-serial (tables_in dump.entries) dump.entries
+    (serial_of (tables_in dump.entries) dump.entries (tables_changes 0 dump.tables) parameters (table_spans dump.tables)))
 few-answer dump y.check = omega arith
 few-answer dump (y.diff first second query) =
-    few-diff (answers.rows_in (side_answer (ask_to dump) (what_if_answer dump.entries) first query)) (answers.rows_in (side_answer (ask_to dump) (what_if_answer dump.entries) second query))
-few-answer dump (y.causes kept query) = few-causes (without_in (what_if_answer dump.entries) kept query) (committed_writes dump.entries) (answers.rows_in (ask_to dump kept.how kept.state query))
-few-answer dump (y.ask how point query) = few-ask dump how point query
-few-answer dump (y.what_if change how point query) = few-changed (changed_log parameters dump.entries change) how point query
+    few-unless (mixed_refusal (unmade_refusal dump) dump.entries first second query) _
+    (few-diff (answers.rows_in (side_answer (query_to dump) (what_if_answer dump.entries) first query)) (answers.rows_in (side_answer (query_to dump) (what_if_answer dump.entries) second query)))
+few-answer dump (y.causes subject query) =
+    few-unless (option_or (asking_refusal dump.entries subject query) (unmade_refusal dump)) _
+    (few-causes (without_in (what_if_answer dump.entries) subject query) (committed_writes dump.entries) (answers.rows_in (query_to dump subject query)))
+few-answer dump (y.ask subject query) = few-query dump subject query
+few-answer dump (y.what_if changes subject query) = few-changed (changed_log parameters dump.entries changes) subject query
+few-answer dump (y.explain_saw t k query) =
+    few-checked (λ (select : Select). Program (program_lines dump.entries false (y.after t k) select)) (seen_refusal t k dump.entries) (checked_query (tables_in dump.entries) query) (λ select. omega arith)
 
 few-read : (dump : Dump) (read : Result y.Question Fault) → HasFew (answered (computed_answer dump) read)
 few-read dump (Err fault) = omega arith

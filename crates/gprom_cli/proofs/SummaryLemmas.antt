@@ -1,12 +1,9 @@
 -- The numbers of a summary: transactions, row lines, questions, and the dump that was read back.
-use Rattle.std.proofs.Common.{◌≡◌, ℕ, zero, suc, ◌+◌, ◌*◌, ◌<◌, ◌≤◌, Bool, true, false, cond, List, [], ◌∷◌, ◌++◌, length, map, refl, sym, ap, ◌∙◌, subst, arith}
-use Rattle.std.specs.List.{sum_by}
+use Rattle.std.proofs.Common.{◌≡◌, ℕ, zero, suc, ◌+◌, ◌*◌, ◌<◌, ◌≤◌, Bool, true, false, cond, List, [], ◌∷◌, ◌++◌, length, map, refl, sym, ap, ◌∙◌, arith}
 use Rattle.std.proofs.lemmas.List.{append-nil, length-append, map-append}
 use Rattle.std.proofs.lemmas.List.Concat.{flat_map-append}
-use Rattle.std.proofs.lemmas.List.Sums.{sum-map, sum_by-cons}
 use Rattle.gp_base.specs.Annotated.{monomials, unannotated}
 use Rattle.gp_syntax.specs.Lines.{script_lines}
-use Rattle.gp_versions.specs.declared.span.Span.{Span}
 use Rattle.gp_versions.specs.Spans.{Versions}
 use Rattle.gp_machine.proofs.EntryCounts.{count-most}
 use Rattle.gp_machine.specs.Entries.{Entry, fate_of, is_begin, is_commit, transactions_in, versions_in}
@@ -16,7 +13,6 @@ use Rattle.gp_script.specs.Scripts.{final_state}
 use Rattle.gp_dump.specs.Dumps.{Dump, dump_of, spans_in}
 use Rattle.gp_dump.specs.WholeDumps.{IsDump}
 use Rattle.gp_dump.specs.Verdicts.{Holds, Fails, verdict_on}
-use Rattle.gp_dump.specs.Views.{tables_view}
 use Rattle.gp_dump.proofs.FaultLemmas.{kept-is}
 use Rattle.gp_dump.proofs.LawLemmas.{written-well-formed}
 use Rattle.gp_ask.specs.Printed.{held_to}
@@ -46,30 +42,6 @@ module _ (entries : List Entry) (t : ℕ) where
   next : suc t ≡ t + 1
   next = omega arith
 
-  pub committed-next : (committed : Bool) → has_committed (fate_of (t + 1) entries) ≡ committed → committed_up_to entries (t + 1) ≡ committed_up_to entries t ++ cond committed ((t + 1) ∷ []) []
-  committed-next committed is =
-      subst (λ (u : ℕ). committed_up_to entries u ≡ committed_up_to entries t ++ cond (has_committed (fate_of u entries)) (u ∷ []) []) next refl
-      ∙ ap (λ (b : Bool). committed_up_to entries t ++ cond b ((t + 1) ∷ []) []) is
-
-  -- the next one committed
-  pub committed-more : has_committed (fate_of (t + 1) entries) ≡ true → committed_up_to entries (t + 1) ≡ committed_up_to entries t ++ (t + 1) ∷ []
-  committed-more is = committed-next true is
-
-  pub committed-same : has_committed (fate_of (t + 1) entries) ≡ false → committed_up_to entries (t + 1) ≡ committed_up_to entries t
-  committed-same is = committed-next false is ∙ append-nil (committed_up_to entries t)
-
-  lost-next : (lost : Bool) → is_lost (fate_of (t + 1) entries) ≡ lost → lost_up_to entries (t + 1) ≡ lost_up_to entries t + cond lost 1 0
-  lost-next lost is =
-      subst (λ (u : ℕ). lost_up_to entries u ≡ lost_up_to entries t + cond (is_lost (fate_of u entries)) 1 0) next refl
-      ∙ ap (λ (b : Bool). lost_up_to entries t + cond b 1 0) is
-
-  -- the next one was lost
-  pub lost-more : is_lost (fate_of (t + 1) entries) ≡ true → lost_up_to entries (t + 1) ≡ lost_up_to entries t + 1
-  lost-more is = lost-next true is
-
-  pub lost-same : is_lost (fate_of (t + 1) entries) ≡ false → lost_up_to entries (t + 1) ≡ lost_up_to entries t
-  lost-same is = let step = lost-next false is in omega (arith, step)
-
 -- no more than there are
 lost-one : (lost : Bool) (before t : ℕ) → before ≤ t → before + cond lost 1 0 ≤ suc t
 lost-one true before t few = omega (arith, few)
@@ -83,14 +55,6 @@ lost-few entries (suc t) = lost-one (is_lost (fate_of (suc t) entries)) (lost_up
 
 abbrev pub span_count : Versions → ℕ
 span_count table = length table.spans
-
-pub spans-by : (versions : List Versions) → spans_in (tables_view versions) ≡ sum_by span_count versions
-spans-by versions = sum-map (λ (spans : List Span). length spans) (tables_view versions) ∙ counted versions
-  where
-    counted : (tables : List Versions) → sum_by (λ (spans : List Span). length spans) (tables_view tables) ≡ sum_by span_count tables
-    counted [] = refl
-    counted (table ∷ tables) =
-        sum_by-cons (λ (spans : List Span). length spans) table.spans (tables_view tables) ∙ ap (λ (n : ℕ). length table.spans + n) (counted tables) ∙ sym (sum_by-cons span_count table tables)
 
 -- ---- questions
 

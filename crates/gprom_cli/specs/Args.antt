@@ -62,10 +62,14 @@ format_of word =
     else if bytes_eq word (codes "sql") then Some Sql
     else None
 
+-- what is read and what is replaced have two names, as else a script would be lost to its dump
+abbrev pub are_two_names : List ℕ → List ℕ → Bool
+are_two_names read replaced = not (bytes_eq read replaced)
+
 -- the command of a word, if it is one, and two names, of which that of questions may be the standard input
 abbrev pub command_of_names : List ℕ → List ℕ → List ℕ → Option Command
 command_of_names word first second =
-    if bytes_eq word (codes "run") && is_word second then Some (Run first second)
+    if bytes_eq word (codes "run") && (is_word second && are_two_names first second) then Some (Run first second)
     else option_map (λ format. Ask format first second) (format_of word)
 
 -- the name of a table that a word writes, with letters of either case
@@ -75,7 +79,7 @@ table_name word = if is_name (str_to_ascii_lowercase word) then Some (str_to_asc
 -- the command of a word, if it is one, a name, a table and a name
 abbrev pub command_of_table : List ℕ → List ℕ → List ℕ → List ℕ → Option Command
 command_of_table word csv table script =
-    if bytes_eq word (codes "load") then option_map (λ name. Load csv name script) (table_name table) else None
+    if bytes_eq word (codes "load") && are_two_names csv script then option_map (λ name. Load csv name script) (table_name table) else None
 
 -- the same, or `export`, two names and the word `names`
 abbrev pub command_of_three : List ℕ → List ℕ → List ℕ → List ℕ → Option Command

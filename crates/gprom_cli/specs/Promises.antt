@@ -1,7 +1,7 @@
 -- Part of the statement: what every call of the program promises. This is the contract of `gprom`, for every shelf and every sink that keep their own
 -- contracts, the real ones included. It speaks of what the shelf has done in the call: which bytes each read gave, and by which bytes a file was replaced.
 -- What follows for each command and each status is in `Consequences`, and for the files that a shelf has in `OverFiles`, both by laws.
-use Rattle.std.specs.Prelude.{◌≡◌, ◌≢◌, ℕ, ◌^◌, ◌<◌, ◌≤◌, AllPairs, List, ◌∷◌, length, None, Result, Ok, Err, codes}
+use Rattle.std.specs.Prelude.{◌≡◌, ◌≢◌, ℕ, true, ◌^◌, ◌<◌, ◌≤◌, AllPairs, List, ◌∷◌, length, None, Result, Ok, Err, codes}
 use Rattle.gp_base.specs.Annotated.{monomials, unannotated}
 use Rattle.gp_base.specs.Catalogs.{table_names}
 use Rattle.gp_base.specs.declared.cell.Cell.{Cell}
@@ -33,11 +33,15 @@ use Rattle.gp_ask.specs.declared.answered.Answered.TheVariants.{Sheet}
 use Rattle.gp_ask.specs.Answers.{answer_to, held_to}
 use Rattle.gp_ask.specs.declared.format.Format.{Format}
 use Rattle.gp_ask.specs.declared.format.Format.TheVariants.{Text, Named, Sql}
+use Rattle.gp_ask.specs.Compared.{AnswersAsMade, compares_rows}
 use Rattle.gp_ask.specs.Explained.{ExplainsLines}
 use Rattle.gp_ask.specs.Formats.{text_in}
 use Rattle.gp_ask.specs.Hypothetical.{remaking_refusal, replayed_dump}
 use Rattle.gp_ask.specs.Isolated.{IsIsolated, LosesToFirst}
 use Rattle.gp_ask.specs.Questions.{AreQuestions, ReadQuestion}
+use Rattle.gp_ask.specs.SerialAnswers.{serial_answer}
+use Rattle.gp_ask.specs.SerialHistories.{RunsInCycle, RunsSerially}
+use Rattle.gp_ask.specs.declared.answered.Answered.TheVariants.{Cycle, Serial}
 use Rattle.gp_ask.specs.SqlAnswers.{AreStored, AsksLines}
 use Rattle.gp_whatif.specs.Changed.{changed_log}
 use Rattle.gprom_cli.specs.Call.{Call, HasOutcome, Shown, history_dump}
@@ -89,10 +93,18 @@ pub record Promises (call : Call) : Type 0 where
   pub checked : (bytes : List ℕ) (contents : Dump) → WellFormed bytes contents → difference contents ≡ None
       → (history : IsOfHistory contents)
       × ((format : Format) (question : y.Question) → answer_to (shown format) contents question ≡ held_to (shown format) (after monomials parameters start history.lines) question)
+  -- CAUSES, and DIFF with a changed history, answer from any dump as from the one that its log makes, or are refused since its rows are others, if no rows are left
+  -- out by their provenance. So they blame no statement for rows that the log does not make.
+  pub compared : (format : Format) (bytes : List ℕ) (contents : Dump) (question : y.Question) → WellFormed bytes contents → compares_rows question ≡ true
+      → AnswersAsMade (shown format) contents question
   -- Each transaction of a history is isolated as its BEGIN says, whatever became of it, and the first committer of a row wins: the rows that a commit wrote were
   -- written by no commit after their bases, and no transaction is lost where this holds of its rows. So it is in the history that the commits of the changed
   -- log of any dump, made again, lead to, where none of them stops.
   pub isolated : (lines : List ReadLine) → IsIsolated (last_state monomials lines)
   pub lost : (lines : List ReadLine) → LosesToFirst (last_state monomials lines)
-  pub remade : (bytes : List ℕ) (contents : Dump) (change : y.LogChange) (entries : List Entry) → WellFormed bytes contents → changed_log parameters contents.entries change ≡ Ok entries
+  pub remade : (bytes : List ℕ) (contents : Dump) (changes : List y.LogChange) (entries : List Entry) → WellFormed bytes contents → changed_log parameters contents.entries changes ≡ Ok entries
       → remaking_refusal entries ≡ None → IsIsolated (replayed_state monomials (tables_in entries) entries)
+  -- What SERIAL answers about a history is so: an order is one in which its transactions, run one after another, are a history with the same changes of each
+  -- statement, the same rows of each query and the same last version; and each line of a cycle is true of the history, each from one transaction to the next.
+  pub serial : (lines : List ReadLine) (texts : List (List ℕ)) → serial_answer (dump_of (last_state unannotated lines)) ≡ Serial texts → RunsSerially (last_state unannotated lines) texts
+  pub cycle : (lines : List ReadLine) (texts : List (List ℕ)) → serial_answer (dump_of (last_state unannotated lines)) ≡ Cycle texts → RunsInCycle (last_state unannotated lines) texts

@@ -47,10 +47,12 @@ Files:
   CSV        a sheet, whose first record has the names of the columns
 
 Questions, where QUERY is a SELECT:
-  TRANSACTIONS, LOG 2, VERSIONS OF acct, CHANGES 2 1
+  TRANSACTIONS, LOG 2, CHANGES 2 1, CONFLICTS 2, VERSIONS OF acct, HISTORY OF acct
   AS OF 3 QUERY, REENACT 2 AFTER 1 QUERY, REENACT 2 COMMIT QUERY, SAW 2 AFTER 1 QUERY
-  EXPLAIN, PROVENANCE OF or VALUE IN COUNT OF before AS OF or REENACT
+  EXPLAIN, PROVENANCE OF, VALUE IN COUNT OF or WITHOUT i1.1 OF before AS OF or REENACT
   WHATIF DROP 2 1 OF AS OF 3 QUERY, DIFF AS OF 2 TO AS OF 3 QUERY, CAUSES OF AS OF 3 QUERY
+  WHEN QUERY: in which versions each row is an answer.
+  SERIAL: whether the transactions could have run one after another.
   CHECK: whether DUMP is what its lines make. Ask this first of a dump from others.
 
 Exit status:

@@ -4,7 +4,7 @@ ghost use Rattle.std.specs.Prelude.{◌≡◌, IfOk, map, nat_le, string_bytes};
 ghost use Rattle.std.specs.List.{list_all};
 ghost use Rattle.std.specs.Option.{option_map};
 ghost use Rattle.std.specs.Str.{bytes_eq};
-ghost use Rattle.gprom_cli.specs.Args.{are_words, asks_help, asks_version, command_of, command_of_names, command_of_number, command_of_table, command_of_three, command_of_word, format_of, is_input, is_word, rounds_of, table_name};
+ghost use Rattle.gprom_cli.specs.Args.{are_two_names, are_words, asks_help, asks_version, command_of, command_of_names, command_of_number, command_of_table, command_of_three, command_of_word, format_of, is_input, is_word, rounds_of, table_name};
 ghost use Rattle.gprom_cli.specs.Views.{command_view};
 ghost use Rattle.gprom_cli.specs.Words.{command_of_found, command_of_others, command_of_parts, words_view};
 
@@ -145,11 +145,18 @@ fn format_of(word: &str) -> Option<Format>
     }
 }
 
+/// Whether what is read and what is replaced have two names: else a script would be lost to its dump. Two names of one file, `a` and `./a`, are two.
+fn are_two_names(read: &str, replaced: &str) -> bool
+    ensures { result ≡ are_two_names read.now replaced.now }
+{
+    !is_same(read, replaced)
+}
+
 /// The command of a word, if it is one, and two names, of which that of questions may be the standard input.
 fn command_of_names<'a>(word: &str, first: &'a str, second: &'a str) -> Option<Command<'a>>
     ensures { option_map command_view result ≡ command_of_names word.now first.now second.now }
 {
-    if is_same(word, "run") && is_word(second) {
+    if is_same(word, "run") && is_word(second) && are_two_names(first, second) {
         return Some(Command::Run {
             script: first,
             dump: second,
@@ -224,7 +231,7 @@ fn command_of_table<'a>(
     ensures { IfOk result (λ command. option_map command_view command
         ≡ command_of_table word.now csv.now table.now script.now) }
 {
-    if !is_same(word, "load") {
+    if !is_same(word, "load") || !are_two_names(csv, script) {
         return Ok(None);
     }
     match table_name(alloc, table)? {
@@ -304,7 +311,8 @@ fn command_of_others(alloc: Global, args: &[String]) -> Result<Option<Command<'_
 
 /// The command that the arguments ask for, or `None` where they are invalid: `help` or `version`, also as an option; `run`, `ask`,
 /// `export` or `sql` and two names that are not empty and do not begin with a hyphen, but that of questions may be `-`, and behind those of an
-/// export the word `names`; `gen` and a number from 1 to [`MAX_ROUNDS`]; or `load` and three such names, of which the second is that of a table ([`is_name`], in letters of either case).
+/// export the word `names`; `gen` and a number from 1 to [`MAX_ROUNDS`]; or `load` and three such names, of which the second is that of a table ([`is_name`], in
+/// letters of either case). What `run` and `load` replace has another name than what they read.
 /// Running out of memory is the only error.
 pub(crate) fn parse(alloc: Global, args: &[String]) -> Result<Option<Command<'_>>, NoMemory>
     ensures { IfOk result (λ command. option_map command_view command

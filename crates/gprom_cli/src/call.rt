@@ -9,8 +9,8 @@ ghost use Rattle.gprom_cli.specs.Status.{exit_number};
 use crate::execute::execute;
 use crate::laws::{dumps_of_histories_are_known, scripts_have_well_formed_dumps};
 use gp_ask::{
-    histories_are_isolated, programs_explain_their_questions, queries_ask_their_questions,
-    row_versions_are_stored,
+    comparisons_answer_as_made_dumps, histories_are_isolated, programs_explain_their_questions,
+    queries_ask_their_questions, row_versions_are_stored, serial_answers_are_true,
 };
 use gp_io::{Shelf, Sink};
 use gp_load::exported_sheets_load_again;
@@ -49,6 +49,8 @@ pub fn gprom<H: Shelf, K: Sink>(alloc: Global, args: &[String], shelf: &mut H, o
     queries_ask_their_questions();
     row_versions_are_stored();
     exported_sheets_load_again();
+    comparisons_answer_as_made_dumps();
     histories_are_isolated();
+    serial_answers_are_true();
     execute(alloc, args, shelf, out).number()
 }

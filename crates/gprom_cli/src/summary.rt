@@ -56,20 +56,16 @@ pub struct Summary {
 
 /// Whether the transaction committed.
 fn has_committed(log: &Log, t: u32) -> bool
-    requires first { 1 ≤ t }
-    requires last { t ≤ transactions_in (entries log.now) }
     ensures { result ≡ has_committed (fate_of t (entries log.now)) }
 {
-    matches!(log.fate(t), Some(Fate::Committed(_)))
+    matches!(log.fate(t), Fate::Committed(_))
 }
 
 /// Whether the transaction was lost.
 fn is_lost(log: &Log, t: u32) -> bool
-    requires first { 1 ≤ t }
-    requires last { t ≤ transactions_in (entries log.now) }
     ensures { result ≡ is_lost (fate_of t (entries log.now)) }
 {
-    matches!(log.fate(t), Some(Fate::Lost))
+    matches!(log.fate(t), Fate::Lost)
 }
 
 /// The transactions that committed, in order.

@@ -12,6 +12,7 @@ returns g c =
     let scripts = c.scripts_have_well_formed_dumps.ensures in
     let histories = c.dumps_of_histories_are_known.ensures in
     let isolated = c.histories_are_isolated.ensures in
+    let serial = c.serial_answers_are_true.ensures in
     let call : Call = record {
       command = command_of (map string_bytes c.args.args.now);
       events = ends.events;
@@ -32,9 +33,12 @@ returns g c =
       reloaded = c.exported_sheets_load_again.ensures;
       programs = c.texts_are_read_again.ensures.unique;
       queries = c.texts_spell_one_query.ensures;
+      compared = c.comparisons_answer_as_made_dumps.ensures;
       isolated = isolated.reached;
       lost = isolated.lost;
       remade = isolated.remade;
+      serial = serial.serial;
+      cycle = serial.cycle;
     })
     call ends.outcome in
     (call, refl, ends.grown, refl, refl, c.number.ensures, promises)

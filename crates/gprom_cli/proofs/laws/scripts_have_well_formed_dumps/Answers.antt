@@ -1,4 +1,4 @@
-use Rattle.std.proofs.Common.{◌≡◌, ap, sym, subst, ◌∙◌}
+use Rattle.std.proofs.Common.{ap, sym, subst, ◌∙◌}
 use Rattle.gp_base.specs.Annotated.{monomials, unannotated}
 use Rattle.gp_base.specs.Tokens.{Monomial}
 use Rattle.gp_syntax.specs.Lines.{script_lines}
@@ -14,7 +14,7 @@ use Rattle.gp_ask.specs.Printed.{answer_to, held_to}
 use Rattle.gp_ask.specs.Computed.{computed_answer}
 use Rattle.gprom_cli.specs.Summary.{row_count}
 use Rattle.gprom_cli.proofs.RowCountLemmas.{same-rows}
-use Rattle.gprom_cli.proofs.UnchangedLemmas.{IsRemade, is-remade}
+use Rattle.gp_ask.proofs.MadeLemmas.{IsRemade, is-remade}
 use Rattle.gprom_cli.proofs.laws.scripts_have_well_formed_dumps.Goals as goal
 
 pub returns-clause-formed : goal.returns-clause-formed

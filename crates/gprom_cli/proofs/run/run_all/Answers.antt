@@ -5,7 +5,7 @@ use Rattle.gp_script.specs.Scripts.{final_state}
 use Rattle.gp_dump.specs.Dumps.{dump_of, written_text}
 use Rattle.gp_dump.specs.WholeDumps.{dump_with}
 use Rattle.gp_dump.specs.Views.{tables_view}
-use Rattle.gprom_cli.proofs.EngineLemmas.{engine-dump}
+use Rattle.gp_replay.proofs.EngineLemmas.{engine-dump}
 use Rattle.gprom_cli.proofs.run.run_all.Goals as goal
 
 -- the engine has the row versions of each of its tables
