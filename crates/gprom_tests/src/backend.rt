@@ -3,7 +3,7 @@
 ghost use Rattle.std.specs.Prelude.{◌≡◌, ◌∷◌, [], IfOk, true};
 ghost use Rattle.gp_base.specs.declared.cell.Cell.TheVariants as cell;
 ghost use Rattle.gp_grammar.specs.Syntax as y;
-ghost use Rattle.gp_syntax.specs.Views.{how_view, question_view};
+ghost use Rattle.gp_syntax.specs.Views.{how_view, question_view, subject_view};
 ghost use Rattle.gp_check.specs.Valid.{tables_are_valid};
 ghost use Rattle.gp_log.specs.LogFacts.{tables_in};
 ghost use Rattle.gp_dump.specs.WholeDumps.{IsDump};
@@ -13,10 +13,10 @@ ghost use Rattle.gp_ask.specs.Formats.{asks_rows};
 
 use gp_algebra::PProgram;
 use gp_ask::{Answered, Backend, answer_by, read_questions_are_valid};
-use gp_base::{Cell, NoMemory, Refusal, Row};
+use gp_base::{Cell, NoMemory, Refusal, Row, Stop};
 use gp_dump::Dump;
 use gp_exec::{Env, ExecStop};
-use gp_syntax::{How, Question, ReadStop, read_question};
+use gp_syntax::{How, Question, Subject, read_question};
 use std::alloc::Global;
 
 fn number_row(alloc: Global, number: i64) -> Result<Row, NoMemory>
@@ -47,7 +47,7 @@ impl Backend for Fixed {
 /// Whether rows are asked for.
 fn are_asked(how: &How) -> bool
     ensures { (state : y.Point) (query : y.Query)
-        → result ≡ asks_rows (y.ask (how_view how.now) state query) }
+        → result ≡ asks_rows (y.ask (y.of_state (how_view how.now) state) query) }
 {
     match how {
         How::Rows => true,
@@ -55,6 +55,16 @@ fn are_asked(how: &How) -> bool
         How::Explain { .. } => false,
         How::Value { .. } => false,
         How::Without { .. } => false,
+    }
+}
+
+/// Whether the rows of a state are asked for.
+fn are_asked_of(subject: &Subject) -> bool
+    ensures { (query : y.Query) → result ≡ asks_rows (y.ask (subject_view subject.now) query) }
+{
+    match subject {
+        Subject::State { how, .. } => are_asked(how),
+        Subject::Saw { .. } => false,
     }
 }
 
@@ -66,14 +76,18 @@ fn is_plain(question: &Question) -> bool
         Question::Transactions => false,
         Question::Log { .. } => false,
         Question::Versions { .. } => false,
-        Question::Saw { .. } => false,
         Question::Changes { .. } => false,
         Question::CommitChanges { .. } => false,
+        Question::Conflicts { .. } => false,
+        Question::History { .. } => false,
+        Question::When { .. } => false,
+        Question::Serial => false,
         Question::Check => false,
         Question::Diff { .. } => false,
         Question::Causes { .. } => false,
-        Question::Ask { how, .. } => are_asked(how),
+        Question::Ask { subject, .. } => are_asked_of(subject),
         Question::WhatIf { .. } => false,
+        Question::ExplainSaw { .. } => false,
     }
 }
 
@@ -102,7 +116,7 @@ pub(crate) fn fixed_answer(alloc: Global, dump: &Dump, line: &[u8]) -> Result<An
             drop(question);
             found
         }
-        Err(ReadStop::Refused(refusal)) => Ok(Answered::Refused(refusal)),
-        Err(ReadStop::NoMemory) => Err(NoMemory),
+        Err(Stop::Refused(refusal)) => Ok(Answered::Refused(refusal)),
+        Err(Stop::NoMemory) => Err(NoMemory),
     }
 }

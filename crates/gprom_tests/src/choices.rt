@@ -3,8 +3,8 @@
 
 use crate::cases::{inspect, pair, with_made};
 use gp_algebra::{Select, Stmt, select_is_simple};
-use gp_base::{Catalog, NoMemory, Row, RowId, Sequence, Stored, write_id, write_row};
-use gp_check::{CheckStop, check};
+use gp_base::{Catalog, NoMemory, Row, RowId, Sequence, Stop, Stored, write_id, write_row};
+use gp_check::check;
 use gp_exec::{ChooseStop, Chosen, Views, choose};
 use gp_syntax::{Command, read_command};
 use std::alloc::Global;
@@ -64,10 +64,7 @@ fn creates(alloc: Global, catalog: &mut Catalog, text: &str) -> bool {
 }
 
 /// The rows of an INSERT with VALUES that passed the check.
-fn rows_of_stmt(
-    alloc: Global,
-    stmt: &Result<Stmt, CheckStop>,
-) -> Result<Sequence<Stored>, NoMemory> {
+fn rows_of_stmt(alloc: Global, stmt: &Result<Stmt, Stop>) -> Result<Sequence<Stored>, NoMemory> {
     match stmt {
         Ok(Stmt::Insert { rows, .. }) => stored_rows(alloc, rows.as_slice()),
         _ => Ok(Sequence::new(alloc)),
@@ -220,7 +217,7 @@ fn select_answers(
 fn stmt_answers(
     alloc: Global,
     views: &Views,
-    stmt: &Result<Stmt, CheckStop>,
+    stmt: &Result<Stmt, Stop>,
     most: usize,
     expected: Expected<'_>,
 ) -> bool {

@@ -1,6 +1,6 @@
 //! What a call gave is compared with what the transcript shows.
 
-use crate::directive::{Line, Marker, Shown};
+use crate::directive::{DirectiveLine, Marker, Shown};
 use crate::files::real_file;
 use crate::report::{Failure, common_length, difference};
 use crate::text::expanded;
@@ -15,7 +15,7 @@ pub(crate) struct Check<'a> {
     pub(crate) line: usize,
     pub(crate) shown: Shown<'a>,
     /// The lines that have its text lines, which have this marker.
-    pub(crate) lines: &'a [Line<'a>],
+    pub(crate) lines: &'a [DirectiveLine<'a>],
     pub(crate) marker: Marker,
 }
 

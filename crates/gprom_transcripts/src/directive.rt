@@ -64,13 +64,13 @@ pub(crate) enum Directive<'a> {
 
 /// A line with a directive.
 #[derive(Clone, Copy)]
-pub(crate) struct Line<'a> {
+pub(crate) struct DirectiveLine<'a> {
     /// Its number in the transcript, from 1.
     pub(crate) number: usize,
     pub(crate) directive: Directive<'a>,
 }
 
-impl Line<'_> {
+impl DirectiveLine<'_> {
     /// Whether a file is given or altered here, or a call begins.
     pub(crate) fn begins_step(&self) -> bool {
         matches!(

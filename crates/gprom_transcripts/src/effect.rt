@@ -1,6 +1,6 @@
 //! Every line of a transcript has an effect: a call names each file that is given, and a call has one output, one status and one number of writes.
 
-use crate::directive::{Directive, Line};
+use crate::directive::{Directive, DirectiveLine};
 use crate::report::Failure;
 
 /// Whether a call with these words names this file.
@@ -14,7 +14,7 @@ fn names(words: &str, file: &str) -> bool {
 }
 
 /// Whether a call among the lines below names this file, before it is given anew. Where `is_given`, a line that alters it has it too.
-fn is_read(file: &str, is_given: bool, below: &[Line<'_>]) -> bool {
+fn is_read(file: &str, is_given: bool, below: &[DirectiveLine<'_>]) -> bool {
     for line in below {
         match line.directive {
             Directive::Call(words) if names(words, file) => return true,
@@ -39,7 +39,7 @@ fn is_same_check(one: &Directive<'_>, other: &Directive<'_>) -> bool {
 }
 
 /// Whether a line of the same call, among those below, says the same of it.
-fn is_said_again(directive: &Directive<'_>, below: &[Line<'_>]) -> bool {
+fn is_said_again(directive: &Directive<'_>, below: &[DirectiveLine<'_>]) -> bool {
     for line in below {
         if line.begins_step() {
             return false;
@@ -52,7 +52,7 @@ fn is_said_again(directive: &Directive<'_>, below: &[Line<'_>]) -> bool {
 }
 
 /// Why a line has no effect, by the lines below it, or none where it has one.
-fn fault_of(directive: &Directive<'_>, below: &[Line<'_>]) -> Option<&'static str> {
+fn fault_of(directive: &Directive<'_>, below: &[DirectiveLine<'_>]) -> Option<&'static str> {
     match *directive {
         Directive::Given(file) | Directive::GivenFrom(file, _) if !is_read(file, true, below) => {
             Some("no call names the file")
@@ -67,7 +67,7 @@ fn fault_of(directive: &Directive<'_>, below: &[Line<'_>]) -> Option<&'static st
 }
 
 /// Fails at the first line that has no effect.
-pub(crate) fn check_effects(lines: &[Line<'_>]) -> Result<(), Failure> {
+pub(crate) fn check_effects(lines: &[DirectiveLine<'_>]) -> Result<(), Failure> {
     for (at, line) in lines.iter().enumerate() {
         let below = lines.get(at.saturating_add(1)..).unwrap_or(lines);
         if let Some(fault) = fault_of(&line.directive, below) {

@@ -1,7 +1,7 @@
 //! Transcripts are played: files are given, calls are made, and what they leave is checked.
 
 use crate::check::Check;
-use crate::directive::{Directive, LAST_CALL, Line, Marker, Shown};
+use crate::directive::{Directive, DirectiveLine, LAST_CALL, Marker, Shown};
 use crate::effect::check_effects;
 use crate::files::{add_from, altered, content, copies, put, real_file};
 use crate::report::Failure;
@@ -66,7 +66,11 @@ fn input_file(words: &str) -> Option<&str> {
 }
 
 /// The calls of the files, or else the writes to the output, that fail. Where there are such, so does the last one, by which they are counted.
-fn failing(alloc: Global, body: &[Line<'_>], of_files: bool) -> Result<Vec<u64>, AllocError> {
+fn failing(
+    alloc: Global,
+    body: &[DirectiveLine<'_>],
+    of_files: bool,
+) -> Result<Vec<u64>, AllocError> {
     let mut calls = Vec::new(alloc);
     for line in body {
         match line.directive {
@@ -105,7 +109,12 @@ fn writes_made(out: &mut MemSink) -> u16 {
 }
 
 /// Checks the number of calls of the files, or else that of writes: those that have to fail were made.
-fn check_made(alloc: Global, body: &[Line<'_>], of_files: bool, made: u16) -> Result<(), Failure> {
+fn check_made(
+    alloc: Global,
+    body: &[DirectiveLine<'_>],
+    of_files: bool,
+    made: u16,
+) -> Result<(), Failure> {
     for line in body {
         let (wanted, is_right) = match line.directive {
             Directive::FailFiles(call) if of_files => (call, call <= made),
@@ -122,7 +131,7 @@ fn check_made(alloc: Global, body: &[Line<'_>], of_files: bool, made: u16) -> Re
 }
 
 /// The status with which a call has to end.
-fn wanted_status(body: &[Line<'_>]) -> u8 {
+fn wanted_status(body: &[DirectiveLine<'_>]) -> u8 {
     for line in body {
         if let Directive::Status(status) = line.directive {
             return status;
@@ -132,7 +141,7 @@ fn wanted_status(body: &[Line<'_>]) -> u8 {
 }
 
 /// What the output of the call at this line has to be, and the line that says so.
-fn shown_output<'a>(line: usize, body: &[Line<'a>]) -> (usize, Shown<'a>) {
+fn shown_output<'a>(line: usize, body: &[DirectiveLine<'a>]) -> (usize, Shown<'a>) {
     for line in body {
         if let Directive::Output(shown) = line.directive {
             return (line.number, shown);
@@ -142,12 +151,16 @@ fn shown_output<'a>(line: usize, body: &[Line<'a>]) -> (usize, Shown<'a>) {
 }
 
 /// Whether there are lines of an output.
-fn has_output(body: &[Line<'_>]) -> bool {
+fn has_output(body: &[DirectiveLine<'_>]) -> bool {
     body.iter().any(|line| matches!(line.directive, Directive::Text(Marker::Output, _)))
 }
 
 /// A shelf with these files, on which the calls fail that are to fail.
-fn shelf_of(alloc: Global, files: &[NamedFile], body: &[Line<'_>]) -> Result<MemShelf, AllocError> {
+fn shelf_of(
+    alloc: Global,
+    files: &[NamedFile],
+    body: &[DirectiveLine<'_>],
+) -> Result<MemShelf, AllocError> {
     let files = copies(alloc, files)?;
     Ok(MemShelf::new(alloc, files, failing(alloc, body, true)?))
 }
@@ -216,7 +229,7 @@ impl Player {
         place: usize,
         is_kept: bool,
         line: usize,
-        body: &[Line<'_>],
+        body: &[DirectiveLine<'_>],
     ) -> Result<(), Failure> {
         let lines = expanded(self.alloc, body, Marker::File, 0)?.bytes;
         let given = content(&self.given, name).unwrap_or(b"");
@@ -227,7 +240,12 @@ impl Player {
     }
 
     /// Gives the file that a call reads its lines from, if there are such lines.
-    fn give_input(&mut self, line: usize, words: &str, body: &[Line<'_>]) -> Result<(), Failure> {
+    fn give_input(
+        &mut self,
+        line: usize,
+        words: &str,
+        body: &[DirectiveLine<'_>],
+    ) -> Result<(), Failure> {
         let input = expanded(self.alloc, body, Marker::Input, 0)?;
         if input.input_lines == 0 {
             return Ok(());
@@ -248,7 +266,7 @@ impl Player {
     }
 
     /// Makes a call, keeps what it leaves, and gives its status.
-    fn call(&mut self, words: &str, body: &[Line<'_>]) -> Result<u8, Failure> {
+    fn call(&mut self, words: &str, body: &[DirectiveLine<'_>]) -> Result<u8, Failure> {
         let mut shelf = shelf_of(self.alloc, &self.files, body)?;
         let mut out = MemSink::new(self.alloc, failing(self.alloc, body, false)?);
         let status = called(self.alloc, words, &mut shelf, &mut out)?;
@@ -262,7 +280,7 @@ impl Player {
     fn check_output<H: Shelf>(
         &self,
         line: usize,
-        body: &[Line<'_>],
+        body: &[DirectiveLine<'_>],
         real: &mut H,
     ) -> Result<(), Failure> {
         let (line, shown) = shown_output(line, body);
@@ -284,7 +302,11 @@ impl Player {
     }
 
     /// Checks the files behind a call.
-    fn check_files<H: Shelf>(&self, body: &[Line<'_>], real: &mut H) -> Result<(), Failure> {
+    fn check_files<H: Shelf>(
+        &self,
+        body: &[DirectiveLine<'_>],
+        real: &mut H,
+    ) -> Result<(), Failure> {
         for lines in body.chunk_by(|_, next| !matches!(next.directive, Directive::After(_, _))) {
             if let Some(first) = lines.first()
                 && let Directive::After(name, shown) = first.directive
@@ -308,7 +330,7 @@ impl Player {
         &mut self,
         line: usize,
         words: &str,
-        body: &[Line<'_>],
+        body: &[DirectiveLine<'_>],
         real: &mut H,
     ) -> Result<(), Failure> {
         self.give_input(line, words, body)?;
@@ -321,7 +343,11 @@ impl Player {
     }
 
     /// Plays a file that is given or altered, or a call, with the lines that belong to it.
-    fn play_step<H: Shelf>(&mut self, step: &[Line<'_>], real: &mut H) -> Result<(), Failure> {
+    fn play_step<H: Shelf>(
+        &mut self,
+        step: &[DirectiveLine<'_>],
+        real: &mut H,
+    ) -> Result<(), Failure> {
         let Some((head, body)) = step.split_first() else {
             return Ok(());
         };
@@ -343,7 +369,11 @@ impl Player {
     }
 
     /// Plays a transcript.
-    fn play_steps<H: Shelf>(&mut self, lines: &[Line<'_>], real: &mut H) -> Result<(), Failure> {
+    fn play_steps<H: Shelf>(
+        &mut self,
+        lines: &[DirectiveLine<'_>],
+        real: &mut H,
+    ) -> Result<(), Failure> {
         for step in lines.chunk_by(|_, next| !next.begins_step()) {
             self.play_step(step, real)?;
         }

@@ -1,6 +1,6 @@
 //! The bytes of text lines: their forms in braces, and repeated lines.
 
-use crate::directive::{Directive, Line, Marker};
+use crate::directive::{Directive, DirectiveLine, Marker};
 use crate::report::Failure;
 use itoa::Buffer;
 use std::alloc::{AllocError, Global};
@@ -183,7 +183,11 @@ impl Expansion {
     }
 
     /// Appends the text lines of the marker among these.
-    fn push_lines(&mut self, lines: &[Line<'_>], number: Option<u64>) -> Result<(), Failure> {
+    fn push_lines(
+        &mut self,
+        lines: &[DirectiveLine<'_>],
+        number: Option<u64>,
+    ) -> Result<(), Failure> {
         for line in lines {
             if let Directive::Text(marker, text) = line.directive {
                 if marker == Marker::Input {
@@ -203,7 +207,7 @@ impl Expansion {
     }
 
     /// Appends lines of which the first may be `Repeat`.
-    fn push_part(&mut self, lines: &[Line<'_>]) -> Result<(), Failure> {
+    fn push_part(&mut self, lines: &[DirectiveLine<'_>]) -> Result<(), Failure> {
         if let Some(first) = lines.first()
             && let Directive::Repeat(first, last) = first.directive
         {
@@ -219,7 +223,7 @@ impl Expansion {
 /// The bytes of the text lines of this marker, and the line of the transcript that has the sought byte.
 pub(crate) fn expanded(
     alloc: Global,
-    lines: &[Line<'_>],
+    lines: &[DirectiveLine<'_>],
     marker: Marker,
     sought: usize,
 ) -> Result<Expansion, Failure> {

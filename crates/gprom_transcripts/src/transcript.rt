@@ -1,6 +1,6 @@
 //! A transcript: its directives, each where it may stand.
 
-use crate::directive::{Directive, Line, Marker, Shown, directive_of};
+use crate::directive::{Directive, DirectiveLine, Marker, Shown, directive_of};
 use crate::report::Failure;
 use std::alloc::Global;
 
@@ -53,7 +53,10 @@ impl Place {
 }
 
 /// The directives of a transcript, behind its first empty line. The first one begins a step, and no repeated part is left open.
-pub(crate) fn lines_of<'a>(alloc: Global, text: &'a str) -> Result<Vec<Line<'a>>, Failure> {
+pub(crate) fn lines_of<'a>(
+    alloc: Global,
+    text: &'a str,
+) -> Result<Vec<DirectiveLine<'a>>, Failure> {
     let mut lines = Vec::new(alloc);
     let mut place = Place {
         in_call: false,
@@ -74,7 +77,7 @@ pub(crate) fn lines_of<'a>(alloc: Global, text: &'a str) -> Result<Vec<Line<'a>>
                 return Err(Failure::At(number, "a directive out of place"));
             };
             place = behind;
-            lines.push(Line { number, directive })?;
+            lines.push(DirectiveLine { number, directive })?;
         }
     }
     if place.in_repeat || !text.ends_with('\n') {
