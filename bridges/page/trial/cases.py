@@ -10,8 +10,6 @@ class Case:
     script: str
     chosen: str
     expected: tuple[tuple[str, str], ...]
-    # Whether hand-written answers stand in for those that the program has not.
-    written: bool = False
 
 
 # The rows that are seen, and what the table's heading says of them.
@@ -38,15 +36,14 @@ CASES = [
     Case("stock", "#v8", ((SEEN, "− deleted 8.1.1(1.1.1) 1 38"), (SEEN, "• written 9.2.1(7.1.4) 4 7"))),
     Case("tutorial", "#t3", (("#t3", "3.1 UPDATE payment SET amount = (amount + 400) WHERE (id = 2)"), ("#t3", "payment 1.1.2 2, 'Birch, Ltd', 80 → 2, 'Birch, Ltd', 480"))),
     Case("write-skew", "#t3", (("#t3", "saw 1, 50 2, 50"), ("#t3", "acct 1.1.2 2, 50 → 2, -30"))),
-    # What the program of the day may not know: the same pages with its answers written by hand.
-    Case("lost-update", "#t3", (("#t3", "Lost to transaction 2: row acct 1.1.1, read at version 1, was written by transaction 2 in version 2"), ("#t3", "saw 100")), True),
-    Case("lost-update", "#life-acct-1.1.1", ((".order", "1 2 4"), (".life", "v3 4.2 1, 120 → 1, 150 i1.1.1*u2.2*u4.2")), True),
-    Case("write-skew", "", (("[aria-labelledby=verdicts]", "a cycle of 2"), (".cycle", "a 2 before 3: 2.1 read acct 1.1.2 at 1, 3 wrote it as 3")), True),
-    Case("write-skew", "#t2", (("#t2", "In the cycle: 2 before 3: 2.1 read acct 1.1.2 at 1, 3 wrote it as 3"), ("g.arrow text", "a b")), True),
-    Case("stock", "#t5", (("#t5", "session 3, READ COMMITTED, begun at version 3, lost"), ("#t5", "was written by transaction 4 in version 4")), True),
-    Case("stock", "#life-item-1.1.1", ((".life", "v3 2.2 1, 'Rope', 36, 250 → 1, 'Rope', 38, 250 i1.1.1*u2.2*u3.1"),), True),
-    Case("circle", "", (("[aria-labelledby=verdicts]", "a cycle of 3"), (".cycle", "4.1 read duty 1.1.3 at 1, 3 wrote it as 3"), ("g.arrow text", "a b c")), True),
-    Case("circle", "#t7", (("#t7", "active"), ("#t7", "No statement.")), True),
+    Case("lost-update", "#t3", (("#t3", "Lost to transaction 2: row acct 1.1.1, read at version 1, was written by transaction 2 in version 2"), ("#t3", "saw 100"))),
+    Case("lost-update", "#life-acct-1.1.1", ((".order", "1 2 4"), (".life", "v3 4.2 1, 120 → 1, 150 i1.1.1*u2.2*u4.2"))),
+    Case("write-skew", "", (("[aria-labelledby=verdicts]", "a cycle of 2"), (".cycle", "a 2 before 3: 2.1 read acct 1.1.2 at 1, 3 wrote it as 3"))),
+    Case("write-skew", "#t2", (("#t2", "In the cycle: 2 before 3: 2.1 read acct 1.1.2 at 1, 3 wrote it as 3"), ("g.arrow text", "a b"))),
+    Case("stock", "#t5", (("#t5", "session 3, READ COMMITTED, begun at version 3, lost"), ("#t5", "was written by transaction 4 in version 4"))),
+    Case("stock", "#life-item-1.1.1", ((".life", "v3 2.2 1, 'Rope', 36, 250 → 1, 'Rope', 38, 250 i1.1.1*u2.2*u3.1"),)),
+    Case("circle", "", (("[aria-labelledby=verdicts]", "a cycle of 3"), (".cycle", "4.1 read duty 1.1.3 at 1, 3 wrote it as 3"), ("g.arrow text", "a b c"))),
+    Case("circle", "#t7", (("#t7", "active"), ("#t7", "No statement."))),
     # A text is shown as it is, whatever it looks like.
     Case("hostile", "#t1", (("#t1", "<script>alert(1)</script>"), ("#t1", "{{verdicts}} {{hash}}"), ("#t1", "</code></pre></details></script><h1>Broken</h1>"))),
     Case("hostile", "#v1", ((SEEN, "1.1.1 1 '<script>alert(1)</script>'"), (SEEN, "' -> 7, ''x'' : y &lt;&amp;'"))),

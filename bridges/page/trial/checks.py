@@ -70,7 +70,7 @@ def every_example_opens(browser: Browser, pages: Pages) -> Faults:
 def texts_are_there(browser: Browser, pages: Pages) -> Faults:
     for case in CASES:
         title = ("--title", "<i>hostile</i>") if case.script == "hostile" else ()
-        browser.open(pages.page(pages.dump(case.script), *title, written=case.script if case.written else ""), case.chosen)
+        browser.open(pages.page(pages.dump(case.script), *title), case.chosen)
         fault = noise(browser) or lacks(browser, *case.expected)
         if case.script == "hostile":
             fault = fault or lacks(browser, ("h1", "<i>hostile</i>"))
@@ -91,7 +91,7 @@ def policy_stops_other_scripts(browser: Browser, pages: Pages) -> Faults:
 
 
 def mouse_chooses(browser: Browser, pages: Pages) -> Faults:
-    browser.open(pages.page(pages.dump("stock"), written="stock"))
+    browser.open(pages.page(pages.dump("stock")))
     browser.click("a.tx[data-t='6'] .name")
     fault = lacks(browser, ("#t6", "committed as 5")) or ("two are chosen" if seen(browser, "#t2") else "")
     yield "a click chooses a transaction", fault
@@ -104,7 +104,7 @@ def mouse_chooses(browser: Browser, pages: Pages) -> Faults:
 
 
 def keys_choose(browser: Browser, pages: Pages) -> Faults:
-    browser.open(pages.page(pages.dump("stock"), written="stock"))
+    browser.open(pages.page(pages.dump("stock")))
     browser.ask("document.querySelector('.timeline a[tabindex=\"0\"]').focus()")
     at = "document.activeElement.getAttribute('data-t') || document.activeElement.id"
     first = browser.ask(at)
@@ -125,15 +125,15 @@ def keys_choose(browser: Browser, pages: Pages) -> Faults:
 
 
 def all_is_there_without_script(browser: Browser, pages: Pages) -> Faults:
-    browser.open(pages.page(pages.dump("stock"), written="stock"), script=False)
+    browser.open(pages.page(pages.dump("stock")), script=False)
     sections = browser.ask("[...document.querySelectorAll('.one, .rows tbody tr')].every((it) => it.checkVisibility())")
     fault = lacks(browser, ("#t9", "9.2 INSERT INTO list SELECT"), (SEEN, "1.1.1 1 'Rope' 40 250 v1 to v2"))
     yield "without JavaScript nothing is hidden", fault or ("" if sections else "a part is hidden")
-    browser.open(pages.page(pages.dump("stock"), written="stock"))
+    browser.open(pages.page(pages.dump("stock")))
 
 
 def lanes_are_lists(browser: Browser, pages: Pages) -> Faults:
-    browser.open(pages.page(pages.dump("stock"), written="stock"))
+    browser.open(pages.page(pages.dump("stock")))
     spoken = browser.spoken()
     wanted = [
         ("list", "session 3"),
@@ -148,18 +148,6 @@ def lanes_are_lists(browser: Browser, pages: Pages) -> Faults:
     yield "a screen reader is given lists and names", f"{missing[0]} is not there" if missing else ""
 
 
-def missing_questions_are_said(browser: Browser, pages: Pages) -> Faults:
-    """A program without some questions: the page says so, and shows the rest."""
-    browser.open(pages.page(pages.dump("lost-update"), "--title", "without", written="without"), "#t3")
-    expected = (
-        ("[aria-labelledby=verdicts]", "This program has no such question: CONFLICTS, HISTORY, SERIAL. The page shows the rest."),
-        ("#t3", "Whom it lost to, this program has no question for. The reply to line 12 of the script names it."),
-    )
-    yield "missing questions are said", noise(browser) or lacks(browser, *expected)
-    browser.open(pages.page(pages.dump("lost-update"), "--title", "without", written="without"), "#life-acct-1.1.1")
-    yield "lives without HISTORY", lacks(browser, (".life", "v3 4 1, 120 → 1, 150 i1.1.1*u2.2*u4.2"), (".lives", "This program has no question HISTORY"))
-
-
 def forged_dumps_are_called_so(browser: Browser, pages: Pages) -> Faults:
     forged = pages.forged("write-skew", lambda text: text.replace("1, -30\n", "1, -31\n"))
     browser.open(pages.page(forged), "#t3")
@@ -171,10 +159,10 @@ def forged_dumps_are_called_so(browser: Browser, pages: Pages) -> Faults:
 
 def what_is_cut_says_so(browser: Browser, pages: Pages) -> Faults:
     """800 transactions beside one another: the cut keeps those of the cycle, and no link leads behind it."""
-    page = pages.page(pages.dump("overlapping", overlapping(800)), written="overlapping")
-    browser.open(page, "#t705")
+    page = pages.page(pages.dump("overlapping", overlapping(800)))
+    browser.open(page, "#t799")
     expected = (
-        ("#t705", "In the cycle: 700 before 705: 700.1 read acct"),
+        ("#t799", "In the cycle: 799 before 800: 799.1 read acct"),
         (".cut", "Cut: 500 more transactions. TRANSACTIONS gives all."),
         ("g.arrow text", "a b"),
     )
@@ -210,7 +198,7 @@ def _opening(browser: Browser, page: Path) -> float:
 
 def colours_follow_the_reader(browser: Browser, pages: Pages) -> Faults:
     """Dark and light, each with words that stand out from what is behind them (WCAG AA: 4.5)."""
-    page = pages.page(pages.dump("stock"), written="stock")
+    page = pages.page(pages.dump("stock"))
     pairs = [("ink", "page"), ("soft", "page"), ("soft", "card"), ("soft", "lane"), ("arrow", "card"), ("ink", "new"), ("soft", "new")]
     pairs += [(kind, f"{kind}-fill") for kind in ("committed", "lost", "rolled", "active")]
     pairs += [("soft", f"{kind}-fill") for kind in ("committed", "lost", "rolled", "active")]
@@ -242,7 +230,7 @@ def print_has_everything(browser: Browser, pages: Pages) -> Faults:
     browser.call("Emulation.setEmulatedMedia", media="print")
     hidden = browser.ask("dispatchEvent(new Event('beforeprint')), [...document.querySelectorAll('.one, .life')].filter((it) => !it.checkVisibility()).length")
     yield "print has all transactions and lives", f"{hidden} are hidden" if hidden else noise(browser)
-    browser.open(pages.page(pages.dump("overlapping", overlapping(800)), "--transactions", "40", written="overlapping"))
+    browser.open(pages.page(pages.dump("overlapping", overlapping(800)), "--transactions", "40"))
     strips = browser.ask("dispatchEvent(new Event('beforeprint')), [...document.querySelectorAll('.strip')].filter((it) => it.checkVisibility()).length")
     browser.call("Emulation.setEmulatedMedia", media="")
     left = browser.ask("dispatchEvent(new Event('afterprint')), document.querySelectorAll('.strip').length")
@@ -257,7 +245,6 @@ CHECKS = (
     keys_choose,
     all_is_there_without_script,
     lanes_are_lists,
-    missing_questions_are_said,
     forged_dumps_are_called_so,
     what_is_cut_says_so,
     large_pages_open_soon,

@@ -46,23 +46,20 @@ class Pages:
         dump.write_text(change(self.dump(name).read_text(encoding="utf-8")), encoding="utf-8")
         return dump
 
-    def page(self, dump: Path, *options: str, written: str = "") -> Path:
-        """The page of a dump. With `written` some of its answers are those of a file of this name."""
-        name = f"{dump.stem}{'-written' if written else ''}{''.join(options)}"
+    def page(self, dump: Path, *options: str) -> Path:
+        """The page of a dump."""
+        name = f"{dump.stem}{''.join(options)}"
         page = self.folder / f"{name.replace('/', '_')}.html"
         if not page.exists():
             before = _spent()
-            done = self.make(dump, *options, written=written)
+            done = self.make(dump, *options)
             assert done.returncode == 0, done.stderr.decode()
             self.seconds[dump.stem] = _spent() - before
             page.write_bytes(done.stdout)
         return page
 
-    def make(self, dump: Path, *options: str, written: str = "") -> subprocess.CompletedProcess[bytes]:
-        program = self.program
-        if written:
-            program = [sys.executable, str(HERE / "answering"), str(HERE / f"{written}.answers"), *self.program]
-        return subprocess.run([sys.executable, str(PAGE), "--gprom", shlex.join(program), *options, str(dump)], capture_output=True)
+    def make(self, dump: Path, *options: str) -> subprocess.CompletedProcess[bytes]:
+        return subprocess.run([sys.executable, str(PAGE), "--gprom", shlex.join(self.program), *options, str(dump)], capture_output=True)
 
 
 def _spent() -> float:

@@ -12,13 +12,13 @@ from .scripts import overlapping
 def take_pictures(browser: Browser, pages: Pages, folder: Path) -> None:
     folder.mkdir(parents=True, exist_ok=True)
     for name in ("stock", "write-skew", "circle"):
-        page = pages.page(pages.dump(name), written=name)
+        page = pages.page(pages.dump(name))
         for dark in (False, True):
             browser.scheme(dark)
             browser.open(page, "#life-item-1.1.1" if name == "stock" else "")
             browser.picture(folder / f"{name}{'-dark' if dark else ''}.png")
     browser.scheme(False)
-    page = pages.page(pages.dump("stock"), written="stock")
+    page = pages.page(pages.dump("stock"))
     browser.size(420, 900)
     browser.open(page)
     browser.picture(folder / "stock-narrow.png")
@@ -27,9 +27,9 @@ def take_pictures(browser: Browser, pages: Pages, folder: Path) -> None:
     browser.picture(folder / "stock-plain.png")
     browser.open(page)
     browser.print(folder / "stock.pdf")
-    overlapping_page = pages.page(pages.dump("overlapping", overlapping(800)), "--transactions", "40", written="overlapping")
-    browser.open(overlapping_page, "#t705")
-    browser.picture(folder / "overlapping.png", "#timeline", "#t705")
+    overlapping_page = pages.page(pages.dump("overlapping", overlapping(800)), "--transactions", "40")
+    browser.open(overlapping_page, "#t799")
+    browser.picture(folder / "overlapping.png", "#timeline", "#t799")
     browser.print(folder / "overlapping.pdf")
     # The picture of the guide, by what the program itself answers.
     browser.size(1200, 1500)

@@ -8,15 +8,17 @@ ACCOUNTS = 40
 
 
 def overlapping(transactions: int, sessions: int = 8) -> str:
-    """A bank: rounds of transactions beside one another, each with an UPDATE and a SELECT, some of which meet and lose."""
+    """A bank: rounds of transactions beside one another, each with an UPDATE and a SELECT, some of which meet and lose. The last two are a cycle."""
     lines = [*_create(), *(_insert(1, ACCOUNTS)), "s1: COMMIT"]
-    for number in range(1, transactions, sessions):
-        running = range(1, min(sessions, transactions - number) + 1)
+    for number in range(1, transactions - 2, sessions):
+        running = range(1, min(sessions, transactions - 2 - number) + 1)
         accounts = {s: (7 * number + s * s) % ACCOUNTS + 1 for s in running}
         lines += [f"s{s}: BEGIN{' READ COMMITTED' if s % 2 else ''}" for s in running]
         lines += [f"s{s}: UPDATE acct SET bal = bal + {s} WHERE id = {accounts[s]}" for s in running]
         lines += [f"s{s}: SELECT bal FROM acct WHERE id = {accounts[s] % ACCOUNTS + 1}" for s in running]
         lines += [f"s{s}: COMMIT" for s in running]
+    lines += ["s2: BEGIN", "s4: BEGIN", "s2: SELECT bal FROM acct WHERE id = 1", "s4: SELECT bal FROM acct WHERE id = 2"]
+    lines += ["s2: UPDATE acct SET bal = 0 WHERE id = 2", "s4: UPDATE acct SET bal = 0 WHERE id = 1", "s2: COMMIT", "s4: COMMIT"]
     return "\n".join(lines) + "\n"
 
 

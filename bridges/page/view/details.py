@@ -79,8 +79,6 @@ def _changed(answer: Answer | None, most: int) -> str:
 
 def _met(it: Transaction, links: Links) -> str:
     """Whom it lost to; of one that did not end by COMMIT, who wrote its rows meanwhile."""
-    if it.conflicts.unknown and it.kind == "lost":
-        return f'<p class="met">Whom it lost to, this program has no question for. The reply to line {it.end_line} of the script names it.</p>'
     met = it.met()
     if not met:
         return ""

@@ -10,9 +10,6 @@ from dataclasses import dataclass, field
 from pathlib import Path
 from typing import BinaryIO
 
-# The refusal of a line whose first word begins no question of this program.
-NO_SUCH_QUESTION = "E03 syntax fault at column 1"
-
 
 def built_program() -> str:
     """The program as words of a shell: the built one of this checkout, else `gprom` of the path."""
@@ -44,11 +41,6 @@ class Answer:
     @property
     def refused(self) -> bool:
         return re.match(r"E\d\d ", self.head) is not None
-
-    @property
-    def unknown(self) -> bool:
-        """Whether this program has no such question."""
-        return self.head == NO_SUCH_QUESTION
 
     @property
     def answered(self) -> bool:

@@ -118,8 +118,7 @@ def _lives(history: History, table: Table, spans: list[Span], wanted: set[str], 
         return ""
     note = ""
     if table.history.refused:
-        reason = "This program has no question HISTORY" if table.history.unknown else f"HISTORY was refused ({table.history.head})"
-        note = f"{reason}, so the lives are those of VERSIONS, without the statements."
+        note = f"HISTORY was refused ({table.history.head}), so the lives are those of VERSIONS, without the statements."
     return (
         '<details class="lives"><summary>The lives of the rows</summary><p class="quiet"><span class="screen">Choose a row above for its life.</span> '
         f"{escape(note)}</p>{''.join(parts)}</details>"
@@ -127,7 +126,7 @@ def _lives(history: History, table: Table, spans: list[Span], wanted: set[str], 
 
 
 def _lives_of_spans(history: History, spans: list[Span], wanted: set[str]) -> list[Life]:
-    """The lives of rows by their versions alone, for a program without HISTORY."""
+    """The lives of rows by their versions alone, where HISTORY is refused."""
     out: list[Life] = []
     before = None
     for span, gone in zip(spans, deletions(spans)):

@@ -11,7 +11,7 @@ MOST_ORDER = 300
 
 
 def verdicts(history: History, links: Links) -> str:
-    items = (_check(history), _serial(history, links), _unknown(history), _refused(history))
+    items = (_check(history), _serial(history, links), _refused(history))
     return f'<ul class="verdicts">{"".join(items)}</ul>'
 
 
@@ -24,8 +24,6 @@ def _item(kind: str, mark: str, title: str, body: str) -> str:
 
 def _check(history: History) -> str:
     check = history.check
-    if check.unknown:
-        return ""
     folded = fold("CHECK", [check])
     if check.head == "history":
         return _item("good", "✓", "The rows are what the lines make", f"<p>Running the log once more makes this very dump.</p>{folded}")
@@ -35,8 +33,6 @@ def _check(history: History) -> str:
 
 def _serial(history: History, links: Links) -> str:
     serial = history.serial
-    if serial.unknown:
-        return ""
     folded = fold("SERIAL", [serial])
     word = serial.head.partition(" ")[0]
     if word == "serial":
@@ -62,21 +58,8 @@ def _order(lines: list[str], links: Links) -> str:
     return f'<p>The committed transactions give the same in this order:</p><ol class="order">{steps}</ol>{more}'
 
 
-def _unknown(history: History) -> str:
-    """The kinds of questions that this program has not, with the first question of each."""
-    kinds = {}
-    for answer in history.answers:
-        if answer.unknown:
-            kinds.setdefault(answer.question.split(" ")[0], answer)
-    if not kinds:
-        return ""
-    names = ", ".join(f"<code>{escape(kind)}</code>" for kind in sorted(kinds))
-    words = f"<p>This program has no such question: {names}. The page shows the rest.</p>"
-    return _item("open", "–", "Not in this program", words + fold("the first of each", kinds.values()))
-
-
 def _refused(history: History) -> str:
-    refused = [it for it in history.answers if it.refused and not it.unknown and it is not history.serial]
+    refused = [it for it in history.answers if it.refused and it is not history.serial]
     if not refused:
         return ""
     first = refused[:40]

@@ -10,7 +10,12 @@ import time
 
 from .protocol import Connection
 
+# Without indexes a statement reads whole tables. So under SERIALIZABLE the server knows of all reads that SERIAL counts: by an index,
+# a join or a LIMIT would spare it some.
 SETTINGS = """
+enable_indexscan = off
+enable_indexonlyscan = off
+enable_bitmapscan = off
 listen_addresses = ''
 unix_socket_directories = '{folder}'
 max_connections = 40

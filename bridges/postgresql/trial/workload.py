@@ -84,6 +84,8 @@ class Session(threading.Thread):
 
     def run(self):
         try:
+            if self.settings.level:                     # of statements outside of a block too
+                self.execute(f"SET default_transaction_isolation = '{self.settings.level.lower()}'")
             self.execute(PREPARED)
             for _ in range(self.settings.transactions):
                 if self.random.random() < 0.12:

@@ -1,0 +1,81 @@
+"""Asks SERIAL of a random run: whether its committed transactions could have run one after another.
+
+PostgreSQL promises it under SERIALIZABLE. If there is a cycle, the bridge may have put the start of a transaction on the wrong side
+of a COMMIT, so that is tried (`starts`). Under REPEATABLE READ there can be a cycle, and each has a write skew: two lines in a row,
+A before B and B before C, where both read what the next one, running beside them, then wrote.
+"""
+import collections
+import itertools
+import os
+import re
+from dataclasses import dataclass
+
+from .judge import ask
+from .starts import Starts
+from .workload import check as check_workload
+
+MOVED = 'serial with a start on the other side of a COMMIT'
+ANSWERS = ('serial', MOVED, 'cycle', 'undecided')
+STEP = re.compile(r'(\d+) before (\d+) : .*')
+READ_BEFORE = re.compile(r'(\d+) before (\d+) : \1\.\d+ read .* at \d+, \2 wrote it as \d+')
+COMMITTED = re.compile(r'(\d+) .* at (\d+) statements \d+ committed as (\d+)')
+
+
+@dataclass
+class Asked:
+    """The answer for a run: one of ANSWERS, its lines, and of each committed transaction the version that it read first and its own."""
+    level: str
+    answer: str
+    lines: list[str]
+    versions: dict[str, tuple[int, int]]
+    is_covered: bool = True                             # whether `verify` found the transactions of a cycle to be as on the server
+
+    def cycle(self):
+        """The transactions of a cycle."""
+        return [match.group(1) for match in map(STEP.fullmatch, self.lines) if match]
+
+    def has_write_skew(self):
+        """Whether two lines in a row are reads of what was then written, each by transactions that ran beside each other."""
+        pairs = [match.groups() if (match := READ_BEFORE.fullmatch(line)) else None for line in self.lines]
+        return any(first and second and self.overlap(*first) and self.overlap(*second)
+                   for first, second in itertools.pairwise([*pairs, pairs[0]]))
+
+    def overlap(self, one, other):
+        """Whether neither of two transactions could see the other."""
+        (read, made), (other_read, other_made) = self.versions[one], self.versions[other]
+        return read < other_made and other_read < made
+
+
+def check(window, found, gprom, level, made):
+    """What is wrong with a run, and with the answer for it, which goes to `made`."""
+    (head, lines), (_, transactions) = ask(gprom, window.path('out.dump'), ['SERIAL', 'TRANSACTIONS'])
+    committed = [match.groups() for match in map(COMMITTED.fullmatch, transactions) if match]
+    asked = Asked(level, head.split()[0], lines, {number: (int(read), int(own)) for number, read, own in committed})
+    asked.is_covered = all(verdict.kind() == 'same' for verdict in found.verdicts if verdict.transaction in asked.cycle())
+    made.append(asked)
+    return check_workload(window, found) + wrong_answer(asked, window, gprom)
+
+
+def wrong_answer(asked, window, gprom):
+    """A failure, if this is no answer for a run under its level. Where another start makes it serial, that is printed."""
+    if asked.answer == 'serial' and sorted(asked.lines, key=int) == sorted(asked.versions, key=int):
+        return []
+    if asked.answer == 'cycle' and (asked.level not in ('REPEATABLE READ', 'SERIALIZABLE') or asked.level == 'REPEATABLE READ' and asked.has_write_skew()):
+        return []
+    cycle = f"SERIAL: {asked.answer}: {'; '.join(asked.lines)}"
+    if asked.answer == 'cycle' and asked.level == 'SERIALIZABLE' and (moves := Starts(window, gprom).serial()):
+        print(f"{os.path.basename(window.folder)}: {cycle}; serial, if {' and '.join(moves)}", flush=True)
+        asked.answer = MOVED
+        return []
+    return [cycle]
+
+
+def summary(made):
+    """How often each answer was given, by level, as lines."""
+    for level in sorted({asked.level for asked in made}):
+        of_level = [asked for asked in made if asked.level == level]
+        counts = collections.Counter(asked.answer for asked in of_level)
+        parts = [f'{counts[answer]} {answer}' for answer in ANSWERS if counts[answer]]
+        if counts['cycle']:
+            parts.append(f"{sum(asked.answer == 'cycle' and asked.is_covered for asked in of_level)} of the cycles of covered transactions alone")
+        yield f"SERIAL, {level}: {', '.join(parts)}"
