@@ -1,5 +1,5 @@
 -- Whatever programs answer explained questions, a dump answers as the history held it where it does with those that are printed.
-use Rattle.std.proofs.Common.{◌≡◌, List, None, false, ap, ◌∙◌}
+use Rattle.std.proofs.Common.{◌≡◌, Bool, true, false, cond, List, None, ap, ◌∙◌}
 use Rattle.gp_base.specs.Tokens.{Monomial}
 use Rattle.gp_grammar.specs.Syntax as y
 use Rattle.gp_algebra.specs.Statements.{Select}
@@ -12,8 +12,9 @@ use Rattle.gp_dump.specs.Dumps.{Dump}
 use Rattle.gp_ask.specs.declared.answered.Answered.TheVariants.{Program}
 use Rattle.gp_ask.specs.Answers as answers
 use Rattle.gp_ask.specs.Asking.{Programs, query_answer}
-use Rattle.gp_ask.specs.Differences.{causes_answer, diff_answer}
+use Rattle.gp_ask.specs.Differences.{are_mixed, causes_answer, diff_answer}
 use Rattle.gp_ask.specs.Hypothetical as hypothetical
+use Rattle.gp_ask.specs.Hypothetical.{replayed_dump}
 use Rattle.gp_ask.specs.Intervals.{when_answer}
 use Rattle.gp_ask.specs.Made.{unmade_refusal}
 use Rattle.gp_ask.specs.Printed.{answer_to, held_to}
@@ -23,7 +24,7 @@ use Rattle.gp_ask.proofs.DifferenceLemmas.{causes-same, diff-same}
 use Rattle.gp_ask.proofs.IntervalLemmas.{when-same}
 
 module _ (programs : Programs) (dump : Dump) (state : State Monomial) (log : dump.entries ≡ state.entries) (catalogue : tables_in state.entries ≡ state.catalogue)
-    (made : unmade_refusal dump ≡ None) (same : (question : y.Question) → answer_to dump question ≡ held_to state question) where
+    (made : unmade_refusal dump ≡ None) (remade : replayed_dump dump.entries ≡ dump) (same : (question : y.Question) → answer_to dump question ≡ held_to state question) where
   asked-any : (subject : y.Subject) (query : y.Query) → subjects.query_to programs dump subject query ≡ subjects.query_held programs state subject query
   asked-any (y.of_state y.rows point) query = same (y.ask (y.of_state y.rows point) query)
   asked-any (y.of_state y.provenance point) query = same (y.ask (y.of_state y.provenance point) query)
@@ -32,6 +33,15 @@ module _ (programs : Programs) (dump : Dump) (state : State Monomial) (log : dum
   asked-any (y.of_state (y.value name rules other) point) query = same (y.ask (y.of_state (y.value name rules other) point) query)
   asked-any (y.of_state (y.without patterns) point) query = same (y.ask (y.of_state (y.without patterns) point) query)
   asked-any (y.saw t k) query = same (y.ask (y.saw t k) query)
+
+  remade-any : (subject : y.Subject) (query : y.Query) → subjects.query_to programs (replayed_dump dump.entries) subject query ≡ subjects.query_held programs state subject query
+  remade-any subject query = ap (λ (own : Dump). subjects.query_to programs own subject query) remade ∙ asked-any subject query
+
+  beside-any : (mixed : Bool) (subject : y.Subject) (query : y.Query)
+      → cond mixed (subjects.query_to programs (replayed_dump dump.entries)) (subjects.query_to programs dump) subject query
+      ≡ cond mixed (subjects.query_held programs state) (subjects.query_held programs state) subject query
+  beside-any true = remade-any
+  beside-any false = asked-any
 
   changed-any : (changes : List y.LogChange) (subject : y.Subject) (query : y.Query)
       → hypothetical.what_if_held programs dump.entries changes subject query ≡ hypothetical.what_if_held programs state.entries changes subject query
@@ -50,10 +60,10 @@ module _ (programs : Programs) (dump : Dump) (state : State Monomial) (log : dum
   any-held y.serial = same y.serial
   any-held y.check = same y.check
   any-held (y.diff first second query) =
-      diff-same _ _ _ _ asked-any changed-any _ _ made dump.entries first second query
-      ∙ ap (λ (entries : List Entry). diff_answer (subjects.query_held programs state) (hypothetical.what_if_held programs state.entries) None entries first second query) log
+      diff-same _ _ _ _ (beside-any (are_mixed first second)) changed-any _ _ made dump.entries first second query
+      ∙ ap (λ (entries : List Entry). diff_answer (cond (are_mixed first second) (subjects.query_held programs state) (subjects.query_held programs state)) (hypothetical.what_if_held programs state.entries) None entries first second query) log
   any-held (y.causes subject query) =
-      causes-same _ _ _ _ asked-any changed-any _ _ made dump.entries subject query
+      causes-same _ _ _ _ remade-any changed-any _ _ made dump.entries subject query
       ∙ ap (λ (entries : List Entry). causes_answer (subjects.query_held programs state) (hypothetical.what_if_held programs state.entries) None entries subject query) log
   any-held (y.ask subject query) = asked-any subject query
   any-held (y.what_if changes subject query) = changed-any changes subject query

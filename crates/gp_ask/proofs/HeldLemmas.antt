@@ -1,5 +1,5 @@
 -- The answers of the dump of a history are those that the history held.
-use Rattle.std.proofs.Common.{◌≡◌, ℕ, zero, suc, nat_lt, false, List, [], ◌++◌, ◌∷◌, length, map, Option, Some, None, Result, Ok, Err, refl, sym, ap, ◌∙◌, if◌then◌else◌}
+use Rattle.std.proofs.Common.{◌≡◌, ℕ, zero, suc, nat_lt, Bool, true, false, cond, List, [], ◌++◌, ◌∷◌, length, map, Option, Some, None, Result, Ok, Err, refl, sym, ap, ◌∙◌, if◌then◌else◌}
 use Rattle.std.specs.List.Sorted.{IsPermutation}
 use Rattle.std.specs.Option.{option_or}
 use Rattle.std.proofs.lemmas.List.{length-map}
@@ -41,6 +41,8 @@ use Rattle.gp_ask.specs.declared.answered.Answered.{Answered}
 use Rattle.gp_ask.specs.declared.answered.Answered.TheVariants.{Checked, Listed, Program, Refused, Rows}
 use Rattle.gp_replay.specs.Differences.{difference}
 use Rattle.gp_ask.specs.SerialAnswers.{serial_answer}
+use Rattle.gp_ask.specs.Differences.{are_mixed}
+use Rattle.gp_ask.specs.Hypothetical.{replayed_dump}
 use Rattle.gp_ask.specs.Made.{unmade_refusal}
 use Rattle.gp_ask.specs.Printed.{answer_to, held_to, query_held, query_to, what_if_held}
 use Rattle.gp_ask.specs.Programs.{program_lines}
@@ -226,10 +228,18 @@ module _ (state : State Monomial) (spans-kept : (table : ℕ) → state_spans (f
       (meets : (t : ℕ) → answer_to (dump_of (forgetting state)) (y.conflicts t) ≡ held_to state (y.conflicts t))
       (lives : (name : y.Bytes) (cond : Option y.Term) → answer_to (dump_of (forgetting state)) (y.history name cond) ≡ held_to state (y.history name cond))
       (asks : (how : y.How) (point : y.Point) (query : y.Query) → answer_to (dump_of (forgetting state)) (y.ask (y.of_state how point) query) ≡ held_to state (y.ask (y.of_state how point) query))
-      (made : unmade_refusal (dump_of (forgetting state)) ≡ None) (same : difference (dump_of (forgetting state)) ≡ None) where
+      (made : unmade_refusal (dump_of (forgetting state)) ≡ None) (remade : replayed_dump state.entries ≡ dump_of (forgetting state)) (same : difference (dump_of (forgetting state)) ≡ None) where
     of-subject : (subject : y.Subject) (query : y.Query) → query_to (dump_of (forgetting state)) subject query ≡ query_held state subject query
     of-subject (y.of_state how point) query = asks how point query
     of-subject (y.saw t k) query = sees t k query
+
+    of-remade : (subject : y.Subject) (query : y.Query) → query_to (replayed_dump state.entries) subject query ≡ query_held state subject query
+    of-remade subject query = ap (λ (dump : Dump). query_to dump subject query) remade ∙ of-subject subject query
+
+    beside : (mixed : Bool) (subject : y.Subject) (query : y.Query)
+        → cond mixed (query_to (replayed_dump state.entries)) (query_to (dump_of (forgetting state))) subject query ≡ cond mixed (query_held state) (query_held state) subject query
+    beside true = of-remade
+    beside false = of-subject
 
     pub held : (question : y.Question) → answer_to (dump_of (forgetting state)) question ≡ held_to state question
     held y.transactions = refl
@@ -244,10 +254,10 @@ module _ (state : State Monomial) (spans-kept : (table : ℕ) → state_spans (f
     held y.serial = ap serial_answer dump-same
     held y.check = ap Checked same
     held (y.diff first second query) =
-        diff-same (query_to (dump_of (forgetting state))) (query_held state) (what_if_held state.entries) (what_if_held state.entries) of-subject (λ changes subject own. refl)
-        (unmade_refusal (dump_of (forgetting state))) None made state.entries first second query
+        diff-same (cond (are_mixed first second) (query_to (replayed_dump state.entries)) (query_to (dump_of (forgetting state)))) (cond (are_mixed first second) (query_held state) (query_held state))
+        (what_if_held state.entries) (what_if_held state.entries) (beside (are_mixed first second)) (λ changes subject own. refl) (unmade_refusal (dump_of (forgetting state))) None made state.entries first second query
     held (y.causes subject query) =
-        causes-same (query_to (dump_of (forgetting state))) (query_held state) (what_if_held state.entries) (what_if_held state.entries) of-subject (λ changes other own. refl)
+        causes-same (query_to (replayed_dump state.entries)) (query_held state) (what_if_held state.entries) (what_if_held state.entries) of-remade (λ changes other own. refl)
         (unmade_refusal (dump_of (forgetting state))) None made state.entries subject query
     held (y.ask subject query) = of-subject subject query
     held (y.what_if changes subject query) = refl

@@ -100,6 +100,13 @@ module _ (is_asked : Identity → Bool) (version t k : ℕ) (statement : Stateme
       ap (f.row_change is_asked version t k statement table (system_row row)) (identity_found row)
       ∙ ap (λ (cells : List Cell). cond (is-told row) (f.change_line version t k statement table row.identity cells ∷ []) []) (cells_found row)
 
+  row-untold : (row : Row) → is_asked row.identity ≡ false → f.row_change is_asked version t k statement table (system_row row) (identity_of (system_row row)) ≡ []
+  row-untold row is = row-told row ∙ ap (λ b. cond b (line-of (shown statement row) ∷ []) []) (ap (λ b. is_changed_by t k statement row.identity && b) is ∙ none (is_changed_by t k statement row.identity))
+    where
+      none : (b : Bool) → (b && false) ≡ false
+      none true = refl
+      none false = refl
+
   pub rows-told : (rows : List Row) → f.rows_changes is_asked version t k statement table (map system_row rows)
       ≡ map line-of (filter (λ (change : Change). is_asked change.0) (map (shown statement) (filter (λ (row : Row). is_changed_by t k statement row.identity) rows)))
   rows-told [] = refl
@@ -116,6 +123,18 @@ module _ (is_asked : Identity → Bool) (version t k : ℕ) (statement : Stateme
             (filter (λ (change : Change). is_asked change.0) (map (shown statement) (filter (λ (row : Row). is_changed_by t k statement row.identity) rows))))) [ true ↦ refl | false ↦ refl ]
         | false ↦ refl
       ]
+
+  -- they are of the rows that are asked for alone
+  pub kept-told : (rows : List Row) → f.rows_changes is_asked version t k statement table (map system_row (filter (λ (row : Row). is_asked row.identity) rows))
+      ≡ f.rows_changes is_asked version t k statement table (map system_row rows)
+  kept-told [] = refl
+  kept-told (row ∷ rows) =
+      elim (is_asked row.identity) as (λ b. is_asked row.identity ≡ b → f.rows_changes is_asked version t k statement table
+      (map system_row (cond b (row ∷ filter (λ (row : Row). is_asked row.identity) rows) (filter (λ (row : Row). is_asked row.identity) rows)))
+      ≡ f.rows_changes is_asked version t k statement table (map system_row (row ∷ rows))) [
+        | true ↦ λ is. ap (λ (more : List RowLine). f.row_change is_asked version t k statement table (system_row row) (identity_of (system_row row)) ++ more) (kept-told rows)
+        | false ↦ λ is. kept-told rows ∙ ap (λ (first : List RowLine). first ++ f.rows_changes is_asked version t k statement table (map system_row rows)) (sym (row-untold row is))
+      ] refl
 
 -- ---- the statements of a dump
 

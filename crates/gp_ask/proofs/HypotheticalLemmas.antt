@@ -1,5 +1,5 @@
 -- A question about the history that would have been gets from a dump the answer of that history.
-use Rattle.std.proofs.Common.{◌≡◌, ◌≤◌, ℕ, List, [], length, Option, Some, None, Result, Ok, Err, refl, sym, ap, ◌∙◌}
+use Rattle.std.proofs.Common.{◌≡◌, ◌≤◌, ℕ, cond, List, [], length, Option, Some, None, Result, Ok, Err, refl, sym, ap, ◌∙◌}
 use Rattle.std.specs.List.Sorted.{IsPermutation}
 use Rattle.std.specs.Option.{option_map}
 use Rattle.gp_base.specs.declared.refusal.Refusal.{Refusal}
@@ -18,6 +18,7 @@ use Rattle.gp_ask.specs.Made.{unmade_refusal}
 use Rattle.gp_ask.specs.Printed.{answer_to, changed_answer, query_held, query_to, remade_answer, what_if_held}
 use Rattle.gp_ask.specs.Computed.{computed_answer, what_if_answer}
 use Rattle.gp_ask.specs.Asking.{table_spans}
+use Rattle.gp_ask.specs.Differences.{are_mixed}
 use Rattle.gp_ask.specs.Hypothetical.{asking_refusal, remaking_refusal, replay_refusal, replayed_dump}
 use Rattle.gp_ask.specs.Values.{unless_refused}
 use Rattle.gp_ask.specs.Replays.{dump_in}
@@ -98,10 +99,10 @@ remade-same dump changes (y.when query) = refl
 remade-same dump changes y.serial = refl
 remade-same dump changes y.check = refl
 remade-same dump changes (y.diff first second query) =
-    diff-same (query_to dump) (query_to dump) (what_if_answer dump.entries) (what_if_held dump.entries) (λ subject own. refl) changes (unmade_refusal dump) (unmade_refusal dump) refl dump.entries
+    diff-same (cond (are_mixed first second) (query_to (replayed_dump dump.entries)) (query_to dump)) (cond (are_mixed first second) (query_to (replayed_dump dump.entries)) (query_to dump)) (what_if_answer dump.entries) (what_if_held dump.entries) (λ subject own. refl) changes (unmade_refusal dump) (unmade_refusal dump) refl dump.entries
     first second query
 remade-same dump changes (y.causes subject query) =
-    causes-same (query_to dump) (query_to dump) (what_if_answer dump.entries) (what_if_held dump.entries) (λ other own. refl) changes (unmade_refusal dump) (unmade_refusal dump) refl dump.entries
+    causes-same (query_to (replayed_dump dump.entries)) (query_to (replayed_dump dump.entries)) (what_if_answer dump.entries) (what_if_held dump.entries) (λ other own. refl) changes (unmade_refusal dump) (unmade_refusal dump) refl dump.entries
     subject query
 remade-same dump changes (y.ask subject query) = refl
 remade-same dump changes (y.what_if own subject query) = changes own subject query

@@ -39,6 +39,7 @@ mod MadeSpans
 mod MeetsLemmas
 mod MetLemmas
 mod MovedLemmas
+mod NarrowedLemmas
 mod NotedLemmas
 mod OnceLemmas
 mod ProvenanceLemmas

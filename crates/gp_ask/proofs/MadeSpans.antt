@@ -20,7 +20,7 @@ use Rattle.gp_versions.specs.declared.span.Span.{Span}
 use Rattle.gp_reenact.specs.Reenacting.{spans_of}
 use Rattle.gp_reenact.specs.Travel.{no_table}
 use Rattle.gp_versions.specs.Spans.{Versions, holds_at, row_of, span_cmp}
-use Rattle.gp_ask.specs.MadeForms.{HaveSameRows}
+use Rattle.gp_ask.specs.MadeForms.{HaveSameRows, has_none}
 use Rattle.gp_ask.proofs.SpanLemmas as span
 
 pub span-same : (span other : Span) → span.id ≡ other.id → span.from ≡ other.from → span.to ≡ other.to → span.row ≡ other.row → span ≡ other
@@ -67,8 +67,15 @@ sorted-moved spans others same =
     IsPermutation-trans spans (sorted_by span_cmp spans) others (span.permuted span_cmp spans)
     (subst (λ (own : List Span). IsPermutation own others) (sym same) (IsPermutation-sym others (sorted_by span_cmp others) (span.permuted span_cmp others)))
 
-pub same-rows : (spans others : List Span) → sorted_by span_cmp spans ≡ sorted_by span_cmp others → HaveSameRows spans others
-same-rows spans others same = λ version. keys_permuted (keys_of version spans) (keys_of version others) (keys-moved version spans others (sorted-moved spans others same))
+pub moved-rows : (spans others : List Span) → IsPermutation spans others → HaveSameRows spans others
+moved-rows spans others moved = λ version. keys_permuted (keys_of version spans) (keys_of version others) (keys-moved version spans others moved)
+
+-- where no flag is set, each is false
+pub none-set : (flags : List Bool) → has_none flags ≡ true → (place : ℕ) → place < length flags → slice_get flags place ≡ Some false
+none-set [] none place below = absurd (omega (arith, below))
+none-set (true ∷ flags) none place below = absurd (false≢true none)
+none-set (false ∷ flags) none zero below = refl
+none-set (false ∷ flags) none (suc place) below = none-set flags none place (omega (arith, below))
 
 -- the first that is found
 pub first-found : {R : Type 0} (g f : ℕ → Option R) → ((n : ℕ) → g (suc n) ≡ option_or (g n) (f n)) → (at upto : ℕ) (r : R) → at < upto → g at ≡ None → f at ≡ Some r → g upto ≡ Some r

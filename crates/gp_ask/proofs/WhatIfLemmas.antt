@@ -1,9 +1,9 @@
 -- What the parts of an answer to a question about a change come to, by what was found.
-use Rattle.std.proofs.Common.{◌≡◌, ℕ, Bool, List, length, Option, Some, None, Result, Ok, IfOk, refl, sym, ap, ◌∙◌, subst}
+use Rattle.std.proofs.Common.{◌≡◌, ℕ, Bool, List, [], ◌∷◌, length, map, Option, Some, None, Result, Ok, IfOk, refl, sym, ap, ◌∙◌, subst, arith}
 use Rattle.std.specs.List.Sorted.{IsPermutation}
 use Rattle.std.proofs.lemmas.List.Sorted.{IsPermutation-refl}
 use Rattle.std.specs.Option.{option_map, option_or}
-use Rattle.std.specs.Result.{result_err}
+use Rattle.std.specs.Result.{result_err, result_unwrap_or}
 use Rattle.gp_base.specs.declared.refusal.Refusal.{Refusal}
 use Rattle.gp_algebra.specs.Statements.{Select}
 use Rattle.gp_base.specs.Annotated.{unannotated}
@@ -12,7 +12,7 @@ use Rattle.gp_algebra.specs.Effects.{Written}
 use Rattle.gp_machine.specs.Bases.{Based}
 use Rattle.gp_machine.specs.Conflicts.{Conflict, least_conflict}
 use Rattle.gp_machine.specs.ConflictForms.{IsLeastConflict}
-use Rattle.gp_machine.specs.Entries.{Entry, log_of, versions_in}
+use Rattle.gp_machine.specs.Entries.{Began, Committed, Created, Ended, Entry, Ran, log_of, versions_in}
 use Rattle.gp_machine.specs.Questions.{log_refusal}
 use Rattle.gp_machine.specs.Replaying.{Loses, ReplayStop}
 use Rattle.gp_machine.specs.ReplayForms.{replayed_spans}
@@ -27,7 +27,7 @@ use Rattle.gp_log.specs.Parameters.{parameters}
 use Rattle.gp_log.specs.LogFacts.{tables_in}
 use Rattle.gp_versions.specs.declared.span.Span.{Span}
 use Rattle.gp_versions.specs.Spans.{Versions}
-use Rattle.gp_whatif.specs.Changed.{changed_log}
+use Rattle.gp_whatif.specs.Changed.{changed_log, spread}
 use Rattle.gp_whatif.specs.Replays.{IsMade, IsReplayable, stop_upto}
 use Rattle.gp_dump.specs.Views.{tables_view}
 use Rattle.gp_ask.specs.declared.answered.Answered.{Answered}
@@ -121,3 +121,20 @@ explains_changed entries changes (y.of_state y.provenance point) query new is sa
 explains_changed entries changes (y.of_state (y.value name rules other) point) query new is says = tt
 explains_changed entries changes (y.of_state (y.without patterns) point) query new is says = tt
 explains_changed entries changes (y.saw t k) query new is says = tt
+
+-- ---- no change
+
+spread-once : (entry : Entry) → spread 1 entry ≡ entry
+spread-once (Created line session table) = ap (λ (n : ℕ). Created n session table) (omega arith)
+spread-once (Began line session t level) = ap (λ (n : ℕ). Began n session t level) (omega arith)
+spread-once (Ran line session command t statement) = ap (λ (n : ℕ). Ran n session command t statement) (omega arith)
+spread-once (Committed line session t) = ap (λ (n : ℕ). Committed n session t) (omega arith)
+spread-once (Ended line session end t) = ap (λ (n : ℕ). Ended n session end t) (omega arith)
+
+all-once : (entries : List Entry) → map (spread 1) entries ≡ entries
+all-once [] = refl
+all-once (entry ∷ entries) = λ i. spread-once entry i ∷ all-once entries i
+
+-- a log without a change is the log
+pub unchanged : (entries own : List Entry) → changed_log parameters entries [] ≡ Ok own → own ≡ entries
+unchanged entries own is = ap (λ (found : Result (List Entry) Refusal). result_unwrap_or found own) (sym is) ∙ all-once entries

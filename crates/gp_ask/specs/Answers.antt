@@ -22,8 +22,8 @@ use Rattle.gp_ask.specs.declared.answered.Answered.{Answered}
 use Rattle.gp_ask.specs.declared.answered.Answered.TheVariants.{Changes, Checked, Log, Program, Transactions, Versions, Refused}
 use Rattle.gp_ask.specs.Asking.{Programs, query_answer, table_spans}
 use Rattle.gp_ask.specs.Changes.{dump_writes, history_changes, history_writes, numbered_changes}
-use Rattle.gp_ask.specs.Differences.{causes_answer, diff_answer}
-use Rattle.gp_ask.specs.Hypothetical.{what_if_held}
+use Rattle.gp_ask.specs.Differences.{are_mixed, causes_answer, diff_answer}
+use Rattle.gp_ask.specs.Hypothetical.{replayed_dump, what_if_held}
 use Rattle.gp_ask.specs.Intervals.{when_answer}
 use Rattle.gp_ask.specs.Made.{unmade_refusal}
 use Rattle.gp_ask.specs.RowConflicts.{dump_conflicts, history_conflicts}
@@ -38,8 +38,9 @@ use Rattle.gp_replay.specs.Differences.{difference}
 module _ (programs : Programs) where
   -- Given a log, its tables and their row versions; what answers a query, what a statement and what the commit of a version changed, the conflicts of a transaction, and
   -- what became of the rows of a table that meet a condition; whether the transactions run one after another; why the rows are not those that the log makes; and the
-  -- line that CHECK names. What would be with changes is what the history held that the commits of the changed log, made again, lead to.
-  module _ (entries : List Entry) (tables : List Table) (spans : List (List Span)) (asks : y.Subject → y.Query → Answered)
+  -- line that CHECK names. What would be with changes is what the history held that the commits of the changed log, made again, lead to. Beside it, the history is what
+  -- its own log, made again, leads to.
+  module _ (entries : List Entry) (tables : List Table) (spans : List (List Span)) (asks remade : y.Subject → y.Query → Answered)
       (changed : ℕ → ℕ → Answered) (committed : ℕ → Answered) (conflicts : ℕ → Answered) (history : ℕ → Select → Answered) (serial : Answered) (unmade : Option Refusal)
       (line : Option ℕ) where
     abbrev pub answer_by : y.Question → Answered
@@ -54,8 +55,8 @@ module _ (programs : Programs) where
     answer_by (y.when query) = when_answer asks entries query
     answer_by y.serial = serial
     answer_by y.check = Checked line
-    answer_by (y.diff first second query) = diff_answer asks (what_if_held programs entries) unmade entries first second query
-    answer_by (y.causes subject query) = causes_answer asks (what_if_held programs entries) unmade entries subject query
+    answer_by (y.diff first second query) = diff_answer (if are_mixed first second then remade else asks) (what_if_held programs entries) unmade entries first second query
+    answer_by (y.causes subject query) = causes_answer remade (what_if_held programs entries) unmade entries subject query
     answer_by (y.ask subject query) = asks subject query
     answer_by (y.what_if changes subject query) = what_if_held programs entries changes subject query
     answer_by (y.explain_saw t k query) = query_answer (λ select. Program (programs entries false (y.after t k) select)) (seen_refusal t k entries) (checked_query tables query)
@@ -63,11 +64,11 @@ module _ (programs : Programs) where
   -- from a dump, whether a history made it or not
   abbrev pub answer_to : Dump → y.Question → Answered
   answer_to dump =
-      answer_by dump.entries (tables_in dump.entries) dump.tables (query_to programs dump) (numbered_changes dump) (dump_writes dump) (dump_conflicts dump)
-      (dump_history dump) (serial_answer dump) (unmade_refusal dump) (difference dump)
+      answer_by dump.entries (tables_in dump.entries) dump.tables (query_to programs dump) (query_to programs (replayed_dump dump.entries)) (numbered_changes dump) (dump_writes dump)
+      (dump_conflicts dump) (dump_history dump) (serial_answer dump) (unmade_refusal dump) (difference dump)
 
   -- as a history held it: its row versions are those of its dump, which is one of a history, and which its log makes
   abbrev pub held_to : State Monomial → y.Question → Answered
   held_to state =
-      answer_by state.entries state.catalogue (dump_of state).tables (query_held programs state) (λ t k. history_changes state t (k - 1)) (history_writes state)
-      (history_conflicts state) (held_history state) (serial_answer (dump_of state)) None None
+      answer_by state.entries state.catalogue (dump_of state).tables (query_held programs state) (query_held programs state) (λ t k. history_changes state t (k - 1))
+      (history_writes state) (history_conflicts state) (held_history state) (serial_answer (dump_of state)) None None

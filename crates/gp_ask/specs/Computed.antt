@@ -10,7 +10,8 @@ use Rattle.gp_ask.specs.declared.answered.Answered.{Answered}
 use Rattle.gp_ask.specs.declared.format.Format.{Format}
 use Rattle.gp_ask.specs.declared.format.Format.TheVariants.{Sql}
 use Rattle.gp_ask.specs.Printed.{answer_to, changed_answer, query_to, sql_answer_to}
-use Rattle.gp_ask.specs.Differences.{causes_answer, diff_answer}
+use Rattle.gp_ask.specs.DifferenceForms.{history_of}
+use Rattle.gp_ask.specs.Differences.{are_mixed, causes_answer, diff_answer}
 use Rattle.gp_ask.specs.Hypothetical.{replayed_dump}
 use Rattle.gp_ask.specs.Made.{unmade_refusal}
 
@@ -19,8 +20,9 @@ what_if_answer entries changes subject query = changed_answer (λ own. query_to 
 
 abbrev pub computed_answer : Dump → y.Question → Answered
 computed_answer dump (y.what_if changes subject query) = what_if_answer dump.entries changes subject query
-computed_answer dump (y.diff first second query) = diff_answer (query_to dump) (what_if_answer dump.entries) (unmade_refusal dump) dump.entries first second query
-computed_answer dump (y.causes subject query) = causes_answer (query_to dump) (what_if_answer dump.entries) (unmade_refusal dump) dump.entries subject query
+computed_answer dump (y.diff first second query) =
+    diff_answer (history_of (are_mixed first second) dump) (what_if_answer dump.entries) (unmade_refusal dump) dump.entries first second query
+computed_answer dump (y.causes subject query) = causes_answer (query_to (replayed_dump dump.entries)) (what_if_answer dump.entries) (unmade_refusal dump) dump.entries subject query
 computed_answer dump question = answer_to dump question
 
 -- the answers that a format is given

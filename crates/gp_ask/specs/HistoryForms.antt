@@ -1,5 +1,5 @@
 -- Machinery: the history of rows, as the code makes it: which identities are asked for, and the lines of the rows that a statement changed.
-use Rattle.std.specs.Prelude.{◌≡◌, ℕ, zero, suc, ◌==◌, ◌&&◌, nat_lt, Bool, true, false, List, [], ◌∷◌, ◌++◌, length, map, Option, Some, None, if◌then◌else◌}
+use Rattle.std.specs.Prelude.{◌≡◌, ◌<◌, ◌≤◌, ℕ, zero, suc, ◌==◌, ◌&&◌, nat_lt, not, Bool, true, false, List, [], ◌∷◌, ◌++◌, filter, length, map, Option, Some, None, if◌then◌else◌}
 use Rattle.std.specs.List.{flat_map, list_all}
 use Rattle.std.specs.Option.{option_map_or}
 use Rattle.gp_base.specs.declared.cell.Cell.{Cell}
@@ -11,12 +11,12 @@ use Rattle.gp_base.specs.Identities.{Identity, same_identity}
 use Rattle.gp_expr.specs.ExpressionForms.{cond_is_simple}
 use Rattle.gp_expr.specs.Values.{passes}
 use Rattle.gp_grammar.specs.Syntax as y
-use Rattle.gp_algebra.specs.Statements.{Branch, Select, Statement, target}
+use Rattle.gp_algebra.specs.Statements.{Branch, Select, Statement, insert_select, target}
 use Rattle.gp_check.specs.Checking.{checked_query}
 use Rattle.gp_compose.specs.Seen.{is_changed_by}
 use Rattle.gp_dump.specs.Dumps.{Dump}
 use Rattle.gp_log.specs.LogFacts.{tables_in}
-use Rattle.gp_machine.specs.Entries.{committer_of, statement_at, statement_count}
+use Rattle.gp_machine.specs.Entries.{Entry, committer_of, statement_at, statement_count}
 use Rattle.gp_reenact.specs.LookingForms.{system_row}
 use Rattle.gp_versions.specs.declared.span.Span.{Span}
 use Rattle.gp_ask.specs.declared.answered.Answered.{Answered}
@@ -47,6 +47,24 @@ is_simple_select select = list_all is_simple_branch select
 -- a span whose row meets it
 abbrev pub span_asks : Select → Identity → Span → Bool
 span_asks select id span = same_identity span.id id && list_all (λ (branch : Branch). branch_meets branch span.row) select
+
+-- ---- the rows that are asked for, alone
+
+-- what a statement leaves of a row of the table is by the rows of this identity alone
+abbrev pub is_by_identity : ℕ → Statement → Bool
+is_by_identity table (insert_select place select) = not (table == place)
+is_by_identity table statement = true
+
+abbrev pub is_found_by_identity : ℕ → Option Statement → Bool
+is_found_by_identity table statement = option_map_or (is_by_identity table) statement true
+
+-- the first statements of a transaction, this many
+abbrev pub AreByIdentity : ℕ → ℕ → ℕ → List Entry → Type 0
+AreByIdentity table t n entries = (k : ℕ) → 0 < k → k ≤ n → is_found_by_identity table (statement_at t k entries) ≡ true
+
+-- of row versions, those of the table with these identities
+abbrev pub narrowed : (ℕ → List Span) → ℕ → (Identity → Bool) → ℕ → List Span
+narrowed spans table is_asked place = if place == table then filter (λ (span : Span). is_asked span.id) (spans table) else []
 
 -- ---- lines
 

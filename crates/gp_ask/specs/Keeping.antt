@@ -1,6 +1,7 @@
 -- Machinery: what questions about a dump leave for later ones: annotations of its row versions, with monomials, and with the elements of semirings by rules.
-use Rattle.std.specs.Prelude.{ℕ, List, Option, Some, None}
+use Rattle.std.specs.Prelude.{◌≡◌, ℕ, Bool, true, List, Option, Some, None}
 use Rattle.gp_base.specs.Annotated.{Annotations, monomials}
+use Rattle.gp_dump.specs.Views.{dump_view}
 use Rattle.gp_dump.specs.declared.dump.Dump.{Dump}
 use Rattle.gp_history.specs.Keeping.{MayBeKept}
 use Rattle.gp_history.specs.declared.kept.Kept.{Kept}
@@ -10,6 +11,8 @@ use Rattle.gp_reenact.specs.Reenacting.{spans_of}
 use Rattle.gp_semiring.specs.declared.rules.Rule.{Rule}
 use Rattle.gp_ask.specs.declared.keeping.KeptAnnotations.{KeptAnnotations}
 use Rattle.gp_ask.specs.declared.keeping.KeptValues.{KeptValues}
+use Rattle.gp_ask.specs.Made.{unmade_refusal}
+use Rattle.gp_ask.specs.MadeForms.{HasMadeVersions}
 use Rattle.gp_ask.specs.Operations as v
 use Rattle.gp_ask.specs.Operations.{Operations}
 
@@ -26,6 +29,11 @@ abbrev pub MayBeKeptBy : {K : Type 0} → (List Rule × Option ℕ → Annotatio
 MayBeKeptBy domain dump None = Unit {0}
 MayBeKeptBy domain dump (Some own) = MayBeKeptOf (domain (own.rules.rules, own.rules.other)) dump (Some own.kept)
 
+-- whether the row versions are those that the log makes, in whatever order, once nothing was found to tell the rows apart
+abbrev pub IsFound : Dump → Option Bool → Type 0
+IsFound dump None = Unit {0}
+IsFound dump (Some is_made) = (unmade_refusal (dump_view dump) ≡ None) × (is_made ≡ true → HasMadeVersions (dump_view dump))
+
 pub record AreKept (dump : Dump) (kept : KeptAnnotations) : Type 0 where
   pub monomials : MayBeKeptOf monomials dump kept.monomials
   pub count : MayBeKeptBy (elements_by v.count) dump kept.count
@@ -35,3 +43,4 @@ pub record AreKept (dump : Dump) (kept : KeptAnnotations) : Type 0 where
   pub polynomial : MayBeKeptBy (elements_by v.polynomial) dump kept.poly
   pub witness : MayBeKeptBy (elements_by v.witness) dump kept.witness
   pub without : MayBeKeptBy (elements_by v.count) dump kept.without
+  pub is_made : IsFound dump kept.is_made

@@ -15,13 +15,13 @@ ghost use Rattle.gp_machine.specs.Entries.{version_of, versions_in};
 ghost use Rattle.gp_syntax.specs.Views.{change_view, query_view, subject_view};
 ghost use Rattle.gp_whatif.specs.Replays.{IsMade};
 ghost use Rattle.gp_ask.specs.Answerable.{has_few_items};
-ghost use Rattle.gp_ask.specs.Hypothetical.{asking_refusal};
+ghost use Rattle.gp_ask.specs.Hypothetical.{asking_refusal, replayed_dump};
+ghost use Rattle.gp_ask.specs.Keeping.{AreKept, IsFound};
 ghost use Rattle.gp_ask.specs.Made.{unmade_refusal};
 ghost use Rattle.gp_ask.specs.Printed.{query_to};
 ghost use Rattle.gp_ask.specs.DifferenceForms as f;
 ghost use Rattle.gp_ask.specs.Differences as d;
 ghost use Rattle.gp_ask.specs.Computed.{what_if_answer};
-ghost use Rattle.gp_ask.specs.Keeping.{AreKept};
 ghost use Rattle.gp_ask.specs.Writes.{ArePut, AreWrites, IsAsked, IsLine, committed_write, listed_line, write_of, write_view};
 
 use crate::answered::Answered;
@@ -29,8 +29,7 @@ use crate::deltas::{Sizes, delta_sizes};
 use crate::differences::rows_in;
 use crate::hypothetical::{asking_refusal, what_if_answer, what_if_from};
 use crate::keeping::KeptAnnotations;
-use crate::made::unmade_refusal;
-use crate::states::ask_answer;
+use crate::made::{made_answer, unmade_refusal};
 use gp_algebra::Stmt;
 use gp_base::{NoMemory, Refusal, Row, Sequence, Text, append_all, text_of_pieces, write_refusal};
 use gp_dump::Dump;
@@ -396,20 +395,24 @@ fn causes_refusal(
     dump: &Dump,
     subject: &Subject,
     query: &Query,
+    is_made: &mut Option<bool>,
 ) -> Result<Option<Refusal>, NoMemory>
     requires rules { IsDump (dump_view dump.now) }
     requires valid { tables_are_valid (tables_in (dump_view dump.now).entries) ≡ true }
-    ensures { IfOk result (λ refusal. refusal ≡ option_or (asking_refusal
+    requires kept { IsFound dump.now is_made.old }
+    ensures kept { IsFound dump.now is_made.new }
+    ensures refusal { IfOk result (λ refusal. refusal ≡ option_or (asking_refusal
         (dump_view dump.now).entries (subject_view subject.now) (query_view query.now))
         (unmade_refusal (dump_view dump.now))) }
 {
     if let Some(refusal) = asking_refusal(alloc, &dump.log, subject, query)? {
         return Ok(Some(refusal));
     }
-    unmade_refusal(alloc, dump)
+    unmade_refusal(alloc, dump, is_made)
 }
 
-/// The statements that the rows of a query depend on, once nothing refuses the question for causes before its rows.
+/// The statements that the rows of a query depend on, once nothing refuses the question for causes before its rows: they are those of the
+/// dump that the log makes.
 fn caused_answer(
     alloc: Global,
     dump: &Dump,
@@ -421,15 +424,16 @@ fn caused_answer(
     requires valid { tables_are_valid (tables_in (dump_view dump.now).entries) ≡ true }
     requires query { query_is_valid (query_view query.now) ≡ true }
     requires few { has_few_items (query_view query.now) ≡ true }
+    requires made { unmade_refusal (dump_view dump.now) ≡ None }
     requires kept { AreKept dump.now kept.old }
     ensures kept { AreKept dump.now kept.new }
     ensures answered { IfOk result (λ answered. answered ≡ f.causes_of
         (f.without_in (what_if_answer (dump_view dump.now).entries) (subject_view subject.now)
         (query_view query.now)) (f.committed_writes (dump_view dump.now).entries)
-        (d.rows_in (query_to (dump_view dump.now) (subject_view subject.now)
-        (query_view query.now)))) }
+        (d.rows_in (query_to (replayed_dump (dump_view dump.now).entries)
+        (subject_view subject.now) (query_view query.now)))) }
 {
-    let answered = ask_answer(alloc, dump, subject, query, kept)?;
+    let answered = made_answer(alloc, dump, subject, query, kept)?;
     match rows_in(alloc, answered) {
         Err(refusal) => Ok(Answered::Refused(refusal)),
         Ok(rows) => {
@@ -448,7 +452,7 @@ fn caused_answer(
 /// The statements that the rows of a query over a state depend on: for each that writes, of a transaction that committed, how many rows the
 /// answer would lose and how many it would gain without it, or what would refuse the question. A statement without which the answer would be
 /// the same has no line. Refused as the question itself is, but behind what refuses it whatever the rows are the rows of the dump have to be
-/// those that its log makes. Running out of memory is the only error.
+/// those that its log makes, and then it is asked of the dump that the log makes. Running out of memory is the only error.
 pub fn causes_answer(
     alloc: Global,
     dump: &Dump,
@@ -463,11 +467,11 @@ pub fn causes_answer(
     requires kept { AreKept dump.now kept.old }
     ensures kept { AreKept dump.now kept.new }
     ensures answered { IfOk result (λ answered. answered ≡ d.causes_answer
-        (query_to (dump_view dump.now)) (what_if_answer (dump_view dump.now).entries)
-        (unmade_refusal (dump_view dump.now)) (dump_view dump.now).entries
+        (query_to (replayed_dump (dump_view dump.now).entries))
+        (what_if_answer (dump_view dump.now).entries) (unmade_refusal (dump_view dump.now)) (dump_view dump.now).entries
         (subject_view subject.now) (query_view query.now)) }
 {
-    match causes_refusal(alloc, dump, subject, query)? {
+    match causes_refusal(alloc, dump, subject, query, &mut kept.is_made)? {
         Some(refusal) => Ok(Answered::Refused(refusal)),
         None => caused_answer(alloc, dump, subject, query, kept),
     }

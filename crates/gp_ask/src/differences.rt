@@ -1,31 +1,30 @@
 //! Differences between the answers of two questions.
 
-ghost use Rattle.std.specs.Prelude.{◌≡◌, ◌+◌, nat_lt, true, IfOk};
+ghost use Rattle.std.specs.Prelude.{◌≡◌, ◌+◌, nat_lt, true, None, IfOk};
 ghost use Rattle.gp_base.specs.declared.limit.TheConstants.{MAX_ANSWER_ROWS};
 ghost use Rattle.gp_check.specs.Valid.{query_is_valid, side_is_valid, tables_are_valid};
 ghost use Rattle.gp_dump.specs.WholeDumps.{IsDump};
 ghost use Rattle.gp_dump.specs.Views.{dump_view};
 ghost use Rattle.gp_grammar.specs.Laws.{side_has_statements};
 ghost use Rattle.gp_log.specs.LogFacts.{tables_in};
-ghost use Rattle.gp_syntax.specs.Views.{query_view, side_view};
+ghost use Rattle.gp_syntax.specs.Views.{query_view, side_view, subject_view};
 ghost use Rattle.gp_ask.specs.Answerable.{has_few_items};
 ghost use Rattle.gp_ask.specs.Made.{unmade_refusal};
-ghost use Rattle.gp_ask.specs.Printed.{query_to};
 ghost use Rattle.gp_ask.specs.Deltas.{delta};
 ghost use Rattle.gp_ask.specs.DifferenceForms as f;
 ghost use Rattle.gp_ask.specs.Differences as d;
 ghost use Rattle.gp_ask.specs.Computed.{what_if_answer};
-ghost use Rattle.gp_ask.specs.Keeping.{AreKept};
+ghost use Rattle.gp_ask.specs.Keeping.{AreKept, IsFound};
 
 use crate::answered::Answered;
 use crate::deltas::{Sizes, delta_rows, delta_sizes};
 use crate::hypothetical::{asking_refusal, changed_refusal, what_if_answer};
 use crate::keeping::KeptAnnotations;
-use crate::made::unmade_refusal;
+use crate::made::{made_answer, unmade_refusal};
 use crate::states::ask_answer;
 use gp_base::{MAX_ANSWER_ROWS, NoMemory, Refusal, Row, Sequence};
 use gp_dump::Dump;
-use gp_syntax::{Query, Side};
+use gp_syntax::{Query, Side, Subject};
 use std::alloc::Global;
 
 /// The rows of an answer, or its refusal. What asks for rows has no other answer.
@@ -39,10 +38,37 @@ pub(crate) fn rows_in(alloc: Global, answered: Answered) -> Result<Sequence<Row>
     }
 }
 
+/// The answer to a question about the history: beside a changed one it is asked of the dump that the log makes, whose rows this dump has.
+fn history_answer(
+    alloc: Global,
+    dump: &Dump,
+    mixed: bool,
+    subject: &Subject,
+    query: &Query,
+    kept: &mut KeptAnnotations,
+) -> Result<Answered, NoMemory>
+    requires rules { IsDump (dump_view dump.now) }
+    requires valid { tables_are_valid (tables_in (dump_view dump.now).entries) ≡ true }
+    requires query { query_is_valid (query_view query.now) ≡ true }
+    requires few { has_few_items (query_view query.now) ≡ true }
+    requires made { mixed ≡ true → unmade_refusal (dump_view dump.now) ≡ None }
+    requires kept { AreKept dump.now kept.old }
+    ensures kept { AreKept dump.now kept.new }
+    ensures answered { IfOk result (λ answered. answered
+        ≡ f.history_of mixed (dump_view dump.now) (subject_view subject.now)
+        (query_view query.now)) }
+{
+    if mixed {
+        return made_answer(alloc, dump, subject, query, kept);
+    }
+    ask_answer(alloc, dump, subject, query, kept)
+}
+
 /// The answer to the question of a side.
 fn side_answer(
     alloc: Global,
     dump: &Dump,
+    mixed: bool,
     side: &Side,
     query: &Query,
     kept: &mut KeptAnnotations,
@@ -53,14 +79,15 @@ fn side_answer(
     requires change { side_is_valid (side_view side.now) ≡ true }
     requires query { query_is_valid (query_view query.now) ≡ true }
     requires few { has_few_items (query_view query.now) ≡ true }
+    requires made { mixed ≡ true → unmade_refusal (dump_view dump.now) ≡ None }
     requires kept { AreKept dump.now kept.old }
     ensures kept { AreKept dump.now kept.new }
     ensures answered { IfOk result (λ answered. answered ≡ d.side_answer
-        (query_to (dump_view dump.now)) (what_if_answer (dump_view dump.now).entries)
+        (f.history_of mixed (dump_view dump.now)) (what_if_answer (dump_view dump.now).entries)
         (side_view side.now) (query_view query.now)) }
 {
     match side {
-        Side::AsIs { subject } => ask_answer(alloc, dump, subject, query, kept),
+        Side::AsIs { subject } => history_answer(alloc, dump, mixed, subject, query, kept),
         Side::Changed { changes, subject } => {
             what_if_answer(alloc, dump, changes.as_slice(), subject, query)
         }
@@ -112,12 +139,15 @@ fn mixed_refusal(
     first: &Side,
     second: &Side,
     query: &Query,
+    is_made: &mut Option<bool>,
 ) -> Result<Option<Refusal>, NoMemory>
     requires rules { IsDump (dump_view dump.now) }
     requires valid { tables_are_valid (tables_in (dump_view dump.now).entries) ≡ true }
     requires first_statement { side_has_statements (side_view first.now) ≡ true }
     requires second_statement { side_has_statements (side_view second.now) ≡ true }
-    ensures { IfOk result (λ refusal. refusal ≡ d.mixed_refusal
+    requires kept { IsFound dump.now is_made.old }
+    ensures kept { IsFound dump.now is_made.new }
+    ensures refusal { IfOk result (λ refusal. refusal ≡ d.mixed_refusal
         (unmade_refusal (dump_view dump.now)) (dump_view dump.now).entries
         (side_view first.now) (side_view second.now) (query_view query.now)) }
 {
@@ -130,7 +160,7 @@ fn mixed_refusal(
     if let Some(refusal) = side_refusal(alloc, dump, second, query)? {
         return Ok(Some(refusal));
     }
-    unmade_refusal(alloc, dump)
+    unmade_refusal(alloc, dump, is_made)
 }
 
 /// Whether a difference has more lines than an answer has rows.
@@ -167,10 +197,41 @@ fn diff_of(
     }
 }
 
+/// The difference of the answers to the questions of two sides.
+fn sides_answer(
+    alloc: Global,
+    dump: &Dump,
+    mixed: bool,
+    first: &Side,
+    second: &Side,
+    query: &Query,
+    kept: &mut KeptAnnotations,
+) -> Result<Answered, NoMemory>
+    requires rules { IsDump (dump_view dump.now) }
+    requires valid { tables_are_valid (tables_in (dump_view dump.now).entries) ≡ true }
+    requires first_statement { side_has_statements (side_view first.now) ≡ true }
+    requires first_change { side_is_valid (side_view first.now) ≡ true }
+    requires second_statement { side_has_statements (side_view second.now) ≡ true }
+    requires second_change { side_is_valid (side_view second.now) ≡ true }
+    requires query { query_is_valid (query_view query.now) ≡ true }
+    requires few { has_few_items (query_view query.now) ≡ true }
+    requires made { mixed ≡ true → unmade_refusal (dump_view dump.now) ≡ None }
+    requires kept { AreKept dump.now kept.old }
+    ensures kept { AreKept dump.now kept.new }
+    ensures answered { IfOk result (λ answered. answered ≡ f.sides_of
+        (d.side_answer (f.history_of mixed (dump_view dump.now))
+        (what_if_answer (dump_view dump.now).entries))
+        (side_view first.now) (side_view second.now) (query_view query.now)) }
+{
+    let first = rows_in(alloc, side_answer(alloc, dump, mixed, first, query, kept)?);
+    let second = rows_in(alloc, side_answer(alloc, dump, mixed, second, query, kept)?);
+    diff_of(alloc, first, second)
+}
+
 /// The difference between the rows of a query over two sides: each row as often as it is more often in one of them. Refused as the question
 /// of the first side is, then as that of the second; then for more than [`MAX_ANSWER_ROWS`](gp_base::MAX_ANSWER_ROWS) lines (E27). Where one
 /// side is of the history and the other of a changed one, what refuses either whatever the rows are comes first, and then the rows of the
-/// dump that are not those that its log makes. Running out of memory is the only error.
+/// dump that are not those that its log makes; the side of the history is asked of the dump that the log makes. Running out of memory is the only error.
 pub fn diff_answer(
     alloc: Global,
     dump: &Dump,
@@ -190,14 +251,22 @@ pub fn diff_answer(
     requires kept { AreKept dump.now kept.old }
     ensures kept { AreKept dump.now kept.new }
     ensures answered { IfOk result (λ answered. answered ≡ d.diff_answer
-        (query_to (dump_view dump.now)) (what_if_answer (dump_view dump.now).entries)
-        (unmade_refusal (dump_view dump.now)) (dump_view dump.now).entries
+        (f.history_of (d.are_mixed (side_view first.now) (side_view second.now)) (dump_view dump.now))
+        (what_if_answer (dump_view dump.now).entries) (unmade_refusal (dump_view dump.now)) (dump_view dump.now).entries
         (side_view first.now) (side_view second.now) (query_view query.now)) }
 {
-    if let Some(refusal) = mixed_refusal(alloc, dump, first, second, query)? {
-        return Ok(Answered::Refused(refusal));
+    match mixed_refusal(alloc, dump, first, second, query, &mut kept.is_made)? {
+        Some(refusal) => Ok(Answered::Refused(refusal)),
+        None => {
+            sides_answer(
+                alloc,
+                dump,
+                are_mixed(first, second),
+                first,
+                second,
+                query,
+                kept,
+            )
+        }
     }
-    let first = rows_in(alloc, side_answer(alloc, dump, first, query, kept)?);
-    let second = rows_in(alloc, side_answer(alloc, dump, second, query, kept)?);
-    diff_of(alloc, first, second)
 }

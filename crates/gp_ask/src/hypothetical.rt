@@ -1,6 +1,6 @@
 //! Questions about the history that there would be with changes of the log.
 
-ghost use Rattle.std.specs.Prelude.{◌≡◌, ◌<◌, ◌≤◌, Ok, Some, true, IfOk, List, length};
+ghost use Rattle.std.specs.Prelude.{◌≡◌, ◌<◌, ◌≤◌, None, Ok, Some, true, IfOk, List, length};
 ghost use Rattle.gp_base.specs.declared.refusal.Refusal.TheVariants.{E31};
 ghost use Rattle.gp_check.specs.Valid.{changes_are_valid, query_is_valid, tables_are_valid};
 ghost use Rattle.gp_dump.specs.WholeDumps.{IsDump};
@@ -191,6 +191,34 @@ fn replayed_answer(
             ask_answer(alloc, &dump, subject, query, &mut kept)
         }
         Err(stop) => Ok(Answered::Refused(remaking_refusal(&log, stop)?)),
+    }
+}
+
+/// The answer from the dump that the log makes, whose commits are made again without a change.
+pub(crate) fn remade_history_answer(
+    alloc: Global,
+    dump: &Dump,
+    subject: &Subject,
+    query: &Query,
+) -> Result<Answered, NoMemory>
+    requires rules { IsDump (dump_view dump.now) }
+    requires valid { tables_are_valid (tables_in (dump_view dump.now).entries) ≡ true }
+    requires query { query_is_valid (query_view query.now) ≡ true }
+    requires few { has_few_items (query_view query.now) ≡ true }
+    requires made { h.remaking_refusal (dump_view dump.now).entries ≡ None }
+    ensures { IfOk result (λ answered. answered
+        ≡ query_to (replayed_dump (dump_view dump.now).entries) (subject_view subject.now)
+        (query_view query.now)) }
+{
+    // The lines of a log are those of a script. The call does nothing.
+    changed_lines_rise();
+    match gp_whatif::change(alloc, &dump.log, &[]) {
+        Ok(log) => {
+            let made = none_made(alloc, &log)?;
+            replayed_answer(alloc, log, made, subject, query)
+        }
+        Err(Stop::Refused(_)) => unreachable!(),
+        Err(Stop::NoMemory) => Err(NoMemory),
     }
 }
 

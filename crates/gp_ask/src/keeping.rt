@@ -1,4 +1,4 @@
-//! The annotations of row versions that one question about a dump leaves to the next.
+//! What one question about a dump leaves to the next: annotations of row versions, and what was found of the commits of the log, made again.
 
 ghost use Rattle.std.specs.Prelude.{◌≡◌, map, true, ℕ, List, Option};
 ghost use Rattle.gp_algebra.specs.Fitting.{select_fits};
@@ -39,7 +39,8 @@ pub struct KeptValues<K> {
 }
 
 /// The annotations of the row versions of one dump that questions about it have needed. A question goes on from them: it annotates only
-/// the versions that none before it needed. Values are kept by the rules of the last question in their semiring.
+/// the versions that none before it needed. Values are kept by the rules of the last question in their semiring. Once a question has
+/// compared the row versions with those that the log makes, later ones do not.
 #[derive(Drop)]
 pub struct KeptAnnotations {
     /// Monomials.
@@ -58,6 +59,8 @@ pub struct KeptAnnotations {
     pub witness: Option<KeptValues<PosBool>>,
     /// How often rows occur without those that WITHOUT leaves out.
     pub without: Option<KeptValues<Count>>,
+    /// Whether the row versions are those that the log makes, once all versions were found to have the rows that the log makes.
+    pub is_made: Option<bool>,
 }
 
 impl KeptAnnotations {
@@ -74,6 +77,7 @@ impl KeptAnnotations {
             poly: None,
             witness: None,
             without: None,
+            is_made: None,
         }
     }
 }

@@ -38,7 +38,7 @@ ghost use Rattle.gp_whatif.specs.Changed.{changed_log};
 ghost use Rattle.gp_whatif.specs.Replays.{IsCoherent, IsReplayable, stop_upto};
 ghost use Rattle.gp_ask.specs.Answerable.{question_is_valid};
 ghost use Rattle.gp_ask.specs.Printed.{answer_to, held_to, query_to, what_if_held};
-ghost use Rattle.gp_ask.specs.Compared.{AnswersAsMade, compares_rows};
+ghost use Rattle.gp_ask.specs.Compared.{AnswersAsMade, compares_histories};
 ghost use Rattle.gp_ask.specs.Computed.{computed_answer, what_if_answer};
 ghost use Rattle.gp_ask.specs.Asking.{Programs, table_spans};
 ghost use Rattle.gp_ask.specs.Changes.{spans_texts};
@@ -322,16 +322,13 @@ pub fn compared_rows_are_made()
     agreement_is_having_the_same_rows::<()>()
 }
 
-/// So `CAUSES`, and `DIFF` with a changed history, answer as from the dump that the log makes, or are refused since its rows are others,
-/// where no rows are left out by their provenance: they blame no statement for rows that the log does not make.
+/// `CAUSES`, and `DIFF` with a changed history, answer as from the dump that the log makes, or are refused since its rows are others:
+/// they blame no statement for rows that the log does not make, nor for provenance that it does not give them.
 pub fn comparisons_answer_as_made_dumps()
-    ensures { (programs : Programs) (dump : Dump) → IsDump dump → (question : y.Question)
-        → compares_rows question ≡ true → AnswersAsMade programs dump question }
+    ensures { (programs : Programs) (dump : Dump) (question : y.Question)
+        → compares_histories question ≡ true → AnswersAsMade programs dump question }
 {
-    compared_rows_are_made();
-    agreement_is_having_the_same_rows::<()>();
-    changed_logs_are_coherent();
-    replays_have_the_tables_of_their_logs()
+    agreement_is_having_the_same_rows::<()>()
 }
 
 /// `WHEN` agrees with `AS OF` at every version: the rows of the intervals that have a version are, as a bag, the answer over the version,

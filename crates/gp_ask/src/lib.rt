@@ -11,7 +11,8 @@
 //! In reading order: [`Answered`] is the answer to a question, [`answer`] answers a question that was read, [`answer_line`]
 //! a line, [`answer_by`] a plain AS OF or REENACT by what a [`Backend`] gives, of which [`Plain`] is the executor, and
 //! [`write_answer`] writes the answer. [`answer_line_in`] and [`write_answer_in`] do the same in a [`Format`]: as text, as CSV or as SQL. The
-//! lines of a file share their [`KeptAnnotations`], so that the row versions of a dump are annotated once for all its questions. In
+//! lines of a file share their [`KeptAnnotations`], so that the row versions of a dump are annotated once for all its questions, and
+//! compared once with those that its log makes. In
 //! `specs/`, `Asking` and `Answers` say what the answer is, whichever programs answer explained queries (`Printed` with those that are printed, `Computed` as it is
 //! computed), `Explained` what these programs say, `Hypothetical` what the history answers that would have been, `Formats`
 //! which answers are exported as CSV and asked in SQL, `Titles` under which titles, `SqlAnswers` what a query of SQL gives, `Questions` which answers the lines of a file get (`QuestionFiles` by its bytes), and `Texts` how they are written. `Values` has
@@ -47,6 +48,7 @@ mod laws;
 mod logs;
 mod looking;
 mod made;
+mod narrowing;
 mod programs;
 mod provenance;
 mod queries;

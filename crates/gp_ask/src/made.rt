@@ -1,8 +1,9 @@
 //! Whether the rows of a dump are those that its log makes.
 
-ghost use Rattle.std.specs.Prelude.{◌≡◌, ◌<◌, ◌≤◌, ◌^◌, ℕ, length, map, false, not, true, IfOk};
+ghost use Rattle.std.specs.Prelude.{◌≡◌, ◌<◌, ◌≤◌, ◌^◌, ℕ, length, map, false, not, true, None, Some, IfOk};
 ghost use Rattle.std.specs.Cmp.Lexicographic.{slice_cmp};
 ghost use Rattle.std.specs.List.{All, slice_get};
+ghost use Rattle.std.specs.List.Sorted.{IsPermutation};
 ghost use Rattle.std.specs.Ordering.{is_eq};
 ghost use Rattle.gp_base.specs.Annotated.{unannotated};
 ghost use Rattle.gp_base.specs.declared.refusal.Refusal.TheVariants.{E24};
@@ -14,18 +15,30 @@ ghost use Rattle.gp_history.specs.Matching.{keys_of, span_key};
 ghost use Rattle.gp_log.specs.Contents as c;
 ghost use Rattle.gp_log.specs.LogFacts.{tables_in};
 ghost use Rattle.gp_reenact.specs.Reenacting.{spans_of};
-ghost use Rattle.gp_check.specs.Valid.{tables_are_valid};
+ghost use Rattle.gp_check.specs.Valid.{query_is_valid, tables_are_valid};
+ghost use Rattle.gp_machine.specs.Entries.{versions_in};
 ghost use Rattle.gp_machine.specs.Event.{name_at};
 ghost use Rattle.gp_machine.specs.HistorySpans.{as_of};
 ghost use Rattle.gp_versions.specs.Spans.{rows_at};
 ghost use Rattle.gp_ask.specs.Made as s;
-ghost use Rattle.gp_ask.specs.MadeForms.{AreDiffering, HaveSameRows, HaveTables};
+ghost use Rattle.gp_ask.specs.MadeForms.{AreDiffering, HaveSameRows, HaveTables, has_none};
+ghost use Rattle.gp_ask.specs.Answerable.{has_few_items};
+ghost use Rattle.gp_ask.specs.Hypothetical.{replayed_dump};
+ghost use Rattle.gp_ask.specs.Keeping.{AreKept, IsFound};
+ghost use Rattle.gp_ask.specs.Printed.{query_to};
+ghost use Rattle.gp_syntax.specs.Views.{query_view, subject_view};
+ghost use Rattle.gp_whatif.specs.Replays.{IsMade};
 
+use crate::answered::Answered;
 use crate::changes::is_same_id;
-use crate::hypothetical::remaking_refusal;
+use crate::hypothetical::{remade_history_answer, remaking_refusal};
+use crate::keeping::KeptAnnotations;
+use crate::laws::changed_histories_answer_their_questions;
+use crate::states::ask_answer;
 use gp_base::{Cell, NoMemory, Refusal, Row, sort_rows};
 use gp_dump::Dump;
 use gp_log::Log;
+use gp_syntax::{Query, Subject};
 use gp_versions::{Span, VersionTable};
 use gp_whatif::replay;
 use std::alloc::Global;
@@ -137,14 +150,14 @@ fn are_same_at(table: &VersionTable, other: &VersionTable, places: &[u32], other
     true
 }
 
-/// Whether two tables have the same row versions, in whatever order: then they have the same rows in every version.
+/// Whether two tables have the same row versions, in whatever order.
 fn have_same_spans(
     alloc: Global,
     table: &VersionTable,
     other: &VersionTable,
 ) -> Result<bool, NoMemory>
     ensures { IfOk result
-        (λ yes. yes ≡ true → HaveSameRows table.now.spans other.now.spans) }
+        (λ yes. yes ≡ true → IsPermutation table.now.spans other.now.spans) }
 {
     if table.len() != other.len() {
         return Ok(false);
@@ -157,7 +170,7 @@ fn have_same_spans(
     Ok(are_same_at(table, other, &places, &others))
 }
 
-/// For each table, whether its row versions are others. Where they are not, the table has the same rows in every version.
+/// For each table, whether its row versions are others.
 fn differing_tables(
     alloc: Global,
     tables: &[VersionTable],
@@ -172,6 +185,18 @@ fn differing_tables(
         flags.push(!is_same)?;
     }
     Ok(flags)
+}
+
+/// Whether no table has a flag.
+fn has_none(flags: &[bool]) -> bool
+    ensures { result ≡ has_none flags.now }
+{
+    for flag in flags {
+        if *flag {
+            return false;
+        }
+    }
+    true
 }
 
 /// Whether two tables have other rows in a version. They can, if there is a flag.
@@ -234,16 +259,17 @@ fn differing_refusal(
     log: &Log,
     tables: &[VersionTable],
     others: &[VersionTable],
+    flags: &[bool],
 ) -> Result<Option<Refusal>, NoMemory>
-    requires { HaveTables (c.tables log.now) tables.now others.now }
+    requires tables { HaveTables (c.tables log.now) tables.now others.now }
+    requires flags { AreDiffering tables.now others.now flags.now }
     ensures { IfOk result (λ refusal. refusal ≡ s.differing_refusal (c.tables log.now)
         (c.commits log.now) (as_of unannotated (spans_of tables.now))
         (as_of unannotated (spans_of others.now))) }
 {
     log.bounds();
-    let flags = differing_tables(alloc, tables, others)?;
     for before in 0..log.commits() {
-        let found = version_refusal(alloc, log, tables, others, &flags, before + 1)?;
+        let found = version_refusal(alloc, log, tables, others, flags, before + 1)?;
         if found.is_some() {
             return Ok(found);
         }
@@ -253,16 +279,108 @@ fn differing_refusal(
 
 // ---- a dump
 
-/// Why the rows of a dump are not those that its log makes: the refusal of the first commit that cannot be made again (E25, E26, E31, E14), or
-/// of the least version in which they differ, and its first table (E24). None if they are, as those of the dump of a history.
-pub fn unmade_refusal(alloc: Global, dump: &Dump) -> Result<Option<Refusal>, NoMemory>
+/// The refusal of the first version whose rows differ from those that the log makes, or else none, and whether the row versions are those
+/// that it makes; only tables with a flag have others.
+fn decided(
+    alloc: Global,
+    dump: &Dump,
+    made: &[VersionTable],
+    flags: &[bool],
+    is_made: &mut Option<bool>,
+) -> Result<Option<Refusal>, NoMemory>
     requires rules { IsDump (dump_view dump.now) }
-    requires valid { tables_are_valid (tables_in (dump_view dump.now).entries) ≡ true }
-    ensures { IfOk result (λ refusal. refusal ≡ s.unmade_refusal (dump_view dump.now)) }
+    requires made { IsMade (dump_view dump.now).entries (versions_in (dump_view dump.now).entries)
+        made.now }
+    requires flags { AreDiffering dump.now.versions made.now flags.now }
+    requires kept { IsFound dump.now is_made.old }
+    ensures kept { IsFound dump.now is_made.new }
+    ensures refusal { IfOk result (λ refusal. refusal ≡ s.unmade_refusal (dump_view dump.now)) }
 {
     dump.log.bounds();
+    match differing_refusal(alloc, &dump.log, dump.versions.as_slice(), made, flags)? {
+        Some(refusal) => Ok(Some(refusal)),
+        None => {
+            *is_made = Some(has_none(flags));
+            Ok(None)
+        }
+    }
+}
+
+/// Compares the rows of a dump with those that its log makes.
+fn compared(
+    alloc: Global,
+    dump: &Dump,
+    made: &[VersionTable],
+    is_made: &mut Option<bool>,
+) -> Result<Option<Refusal>, NoMemory>
+    requires rules { IsDump (dump_view dump.now) }
+    requires made { IsMade (dump_view dump.now).entries (versions_in (dump_view dump.now).entries)
+        made.now }
+    requires kept { IsFound dump.now is_made.old }
+    ensures kept { IsFound dump.now is_made.new }
+    ensures refusal { IfOk result (λ refusal. refusal ≡ s.unmade_refusal (dump_view dump.now)) }
+{
+    let flags = differing_tables(alloc, dump.versions.as_slice(), made)?;
+    decided(alloc, dump, made, &flags, is_made)
+}
+
+/// Why the rows of a dump are not those that its log makes: the refusal of the first commit that cannot be made again (E25, E26, E31, E14), or
+/// of the least version in which they differ, and its first table (E24). None if they are, as those of the dump of a history: then the
+/// commits are made again only for the first question.
+pub fn unmade_refusal(
+    alloc: Global,
+    dump: &Dump,
+    is_made: &mut Option<bool>,
+) -> Result<Option<Refusal>, NoMemory>
+    requires rules { IsDump (dump_view dump.now) }
+    requires valid { tables_are_valid (tables_in (dump_view dump.now).entries) ≡ true }
+    requires kept { IsFound dump.now is_made.old }
+    ensures kept { IsFound dump.now is_made.new }
+    ensures refusal { IfOk result (λ refusal. refusal ≡ s.unmade_refusal (dump_view dump.now)) }
+{
+    if is_made.is_some() {
+        return Ok(None);
+    }
     match replay(alloc, &dump.log) {
-        Ok(versions) => differing_refusal(alloc, &dump.log, dump.versions.as_slice(), &versions),
+        Ok(versions) => compared(alloc, dump, &versions, is_made),
         Err(stop) => Ok(Some(remaking_refusal(&dump.log, stop)?)),
     }
+}
+
+/// Whether it was found that the row versions are those that the log makes.
+fn was_found(is_made: Option<bool>) -> bool
+    ensures { result ≡ true → is_made ≡ Some true }
+{
+    match is_made {
+        Some(same) => same,
+        None => false,
+    }
+}
+
+/// The answer from the dump that the log makes, where the rows of the dump are those that its log makes. If its row versions are, the dump
+/// itself is asked.
+pub fn made_answer(
+    alloc: Global,
+    dump: &Dump,
+    subject: &Subject,
+    query: &Query,
+    kept: &mut KeptAnnotations,
+) -> Result<Answered, NoMemory>
+    requires rules { IsDump (dump_view dump.now) }
+    requires valid { tables_are_valid (tables_in (dump_view dump.now).entries) ≡ true }
+    requires query { query_is_valid (query_view query.now) ≡ true }
+    requires few { has_few_items (query_view query.now) ≡ true }
+    requires made { s.unmade_refusal (dump_view dump.now) ≡ None }
+    requires kept { AreKept dump.now kept.old }
+    ensures kept { AreKept dump.now kept.new }
+    ensures answered { IfOk result (λ answered. answered
+        ≡ query_to (replayed_dump (dump_view dump.now).entries) (subject_view subject.now)
+        (query_view query.now)) }
+{
+    // The order of the row versions changes no answer. The call does nothing.
+    changed_histories_answer_their_questions();
+    if was_found(kept.is_made) {
+        return ask_answer(alloc, dump, subject, query, kept);
+    }
+    remade_history_answer(alloc, dump, subject, query)
 }

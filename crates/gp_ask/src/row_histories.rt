@@ -1,6 +1,6 @@
 //! What became of rows.
 
-ghost use Rattle.std.specs.Prelude.{◌≡◌, ◌∷◌, ◌<◌, ◌≤◌, ◌&&◌, ◌||◌, [], None, Some, true, IfOk, OnOk};
+ghost use Rattle.std.specs.Prelude.{◌≡◌, ◌∷◌, ◌<◌, ◌≤◌, ◌&&◌, ◌||◌, [], None, Some, true, IfOk, OnOk, map};
 ghost use Rattle.std.specs.BTreeMap.{get};
 ghost use Rattle.std.specs.List.{list_any};
 ghost use Rattle.std.specs.Option.{is_some, option_map};
@@ -13,9 +13,11 @@ ghost use Rattle.gp_dump.specs.Views.{dump_view};
 ghost use Rattle.gp_log.specs.LogFacts.{tables_in};
 ghost use Rattle.gp_machine.specs.Entries as m;
 ghost use Rattle.gp_machine.specs.Questions.{given, is_known};
-ghost use Rattle.gp_reenact.specs.LookingForms.{Looks};
+ghost use Rattle.gp_reenact.specs.LookingForms.{Looks, system_row};
+ghost use Rattle.gp_reenact.specs.Reenacting.{spans_of};
 ghost use Rattle.gp_syntax.specs.Views.{condition_view, query_view};
 ghost use Rattle.gp_ask.specs.Answerable.{IsAnswerable};
+ghost use Rattle.gp_ask.specs.Asking.{table_spans};
 ghost use Rattle.gp_ask.specs.ChangeForms.{after_of, before_of};
 ghost use Rattle.gp_ask.specs.HistoryForms as f;
 ghost use Rattle.gp_ask.specs.Keyed.{cells_of, identity_of, sets_are_simple};
@@ -27,6 +29,7 @@ use crate::answered::Answered;
 use crate::changes::{identity_of, is_changed, side_text};
 use crate::copying::copy_term;
 use crate::looking::{WritingStmt, rows_of, stop_of, writing};
+use crate::narrowing::{are_by_identity, narrowed};
 use crate::row_lines::{push_line, sorted_texts};
 use crate::row_versions::spans_of;
 use gp_algebra::{Branch, Select, Stmt};
@@ -36,9 +39,10 @@ use gp_base::{
 use gp_check::check_query;
 use gp_dump::Dump;
 use gp_expr::truth;
+use gp_reenact::looked;
 use gp_syntax::{Block, Item, Items, Query, Term};
 use gp_txn::assigned;
-use gp_versions::Span;
+use gp_versions::{Span, VersionTable};
 use std::alloc::Global;
 use std::collections::BTreeMap;
 
@@ -315,14 +319,52 @@ fn push_rows(
     Ok(())
 }
 
+/// The rows by which one looks at a statement that writes the table, over the row versions of the identities that are asked for alone where
+/// these tell all of their rows, and over the whole dump else: of such identities, the same rows. A limit that fewer rows pass would say
+/// nothing of all rows.
+fn told_rows(
+    alloc: Global,
+    dump: &Dump,
+    narrow: &[VersionTable],
+    changing: &Changing<'_>,
+) -> Result<Vec<Row>, NoMemory>
+    requires rules { IsAnswerable (dump_view dump.now) }
+    requires narrow { spans_of narrow.now ≡ f.narrowed (table_spans (dump_view dump.now).tables)
+        changing.now.own.table (λ id. is_some (get identity_cmp changing.now.asked.now id)) }
+    requires own { l.IsWriting (dump_view dump.now).entries changing.now.own }
+    requires runs { l.stop_of (dump_view dump.now) changing.now.own.t ≡ None }
+    ensures { IfOk result (λ rows. f.rows_changes
+        (λ id. is_some (get identity_cmp changing.now.asked.now id)) changing.now.version
+        changing.now.own.t changing.now.own.k (statement_view changing.now.own.stmt.now)
+        changing.now.own.table rows.items
+        ≡ f.rows_changes (λ id. is_some (get identity_cmp changing.now.asked.now id))
+        changing.now.version changing.now.own.t changing.now.own.k
+        (statement_view changing.now.own.stmt.now) changing.now.own.table
+        (map system_row (l.rows_of (dump_view dump.now) changing.now.own.t changing.now.own.k
+        (statement_view changing.now.own.stmt.now)))) }
+{
+    let own = &changing.own;
+    if !are_by_identity(&dump.log, own.t, own.k, own.table) {
+        return rows_of(alloc, dump, own);
+    }
+    match looked(alloc, &dump.log, narrow, own.t, own.k - 1, own.stmt) {
+        Ok(rows) => Ok(rows),
+        Err(Stop::Refused(_)) => rows_of(alloc, dump, own),
+        Err(Stop::NoMemory) => Err(NoMemory),
+    }
+}
+
 /// Adds the lines of a statement that writes the table.
 fn push_writing(
     alloc: Global,
     dump: &Dump,
+    narrow: &[VersionTable],
     changing: &Changing<'_>,
     lines: &mut Vec<Row>,
 ) -> Result<(), NoMemory>
     requires rules { IsAnswerable (dump_view dump.now) }
+    requires narrow { spans_of narrow.now ≡ f.narrowed (table_spans (dump_view dump.now).tables)
+        changing.now.own.table (λ id. is_some (get identity_cmp changing.now.asked.now id)) }
     requires own { l.IsWriting (dump_view dump.now).entries changing.now.own }
     requires runs { l.stop_of (dump_view dump.now) changing.now.own.t ≡ None }
     ensures { OnOk result (f.Pushes (f.statement_changes (dump_view dump.now) changing.now.own.table
@@ -330,7 +372,7 @@ fn push_writing(
         changing.now.own.t changing.now.own.k (Some (statement_view changing.now.own.stmt.now)))
         lines.old.items lines.new.items) }
 {
-    let rows = rows_of(alloc, dump, &changing.own)?;
+    let rows = told_rows(alloc, dump, narrow, changing)?;
     push_rows(alloc, changing, &rows, lines)
 }
 
@@ -341,6 +383,8 @@ pub(crate) struct Rows<'a> {
     pub table: u32,
     /// The identities.
     pub asked: &'a BTreeMap<RowId, bool>,
+    /// The row versions of these rows, and no others.
+    pub narrow: &'a [VersionTable],
 }
 
 /// Adds the lines of a statement that writes a table, if this is asked for.
@@ -353,6 +397,8 @@ fn push_own(
     lines: &mut Vec<Row>,
 ) -> Result<(), NoMemory>
     requires rules { IsAnswerable (dump_view dump.now) }
+    requires narrow { spans_of rows.now.narrow.now ≡ f.narrowed (table_spans (dump_view dump.now).tables)
+        rows.now.table (λ id. is_some (get identity_cmp rows.now.asked.now id)) }
     requires own { l.IsWriting (dump_view dump.now).entries own }
     requires runs { l.stop_of (dump_view dump.now) own.t ≡ None }
     ensures { OnOk result (f.Pushes (f.statement_changes (dump_view dump.now) rows.now.table
@@ -367,7 +413,7 @@ fn push_own(
         own,
         asked: rows.asked,
     };
-    push_writing(alloc, dump, &changing, lines)
+    push_writing(alloc, dump, rows.narrow, &changing, lines)
 }
 
 /// Adds the lines of statement k of the transaction that made a version, if it writes the table. A SELECT is not run, nor is a statement
@@ -382,6 +428,8 @@ fn push_statement(
     lines: &mut Vec<Row>,
 ) -> Result<(), NoMemory>
     requires rules { IsAnswerable (dump_view dump.now) }
+    requires narrow { spans_of rows.now.narrow.now ≡ f.narrowed (table_spans (dump_view dump.now).tables)
+        rows.now.table (λ id. is_some (get identity_cmp rows.now.asked.now id)) }
     requires known { is_known t (dump_view dump.now).entries ≡ true }
     requires first { 0 < k }
     requires most { k ≤ m.statement_count t (dump_view dump.now).entries }
@@ -406,6 +454,8 @@ fn push_transaction(
     lines: &mut Vec<Row>,
 ) -> Result<(), NoMemory>
     requires rules { IsAnswerable (dump_view dump.now) }
+    requires narrow { spans_of rows.now.narrow.now ≡ f.narrowed (table_spans (dump_view dump.now).tables)
+        rows.now.table (λ id. is_some (get identity_cmp rows.now.asked.now id)) }
     requires known { is_known t (dump_view dump.now).entries ≡ true }
     requires runs { l.stop_of (dump_view dump.now) t ≡ None }
     ensures { OnOk result (f.Pushes (f.first_changes (dump_view dump.now) rows.now.table
@@ -421,6 +471,8 @@ fn push_transaction(
 /// The lines of all transactions that made versions, in the order of these, or the first stop of one of them.
 fn history_lines(alloc: Global, dump: &Dump, rows: &Rows<'_>) -> Result<Vec<Row>, Stop>
     requires rules { IsAnswerable (dump_view dump.now) }
+    requires narrow { spans_of rows.now.narrow.now ≡ f.narrowed (table_spans (dump_view dump.now).tables)
+        rows.now.table (λ id. is_some (get identity_cmp rows.now.asked.now id)) }
     ensures { Looks (λ lines. lines.items) result
         (given (s.stop_upto (dump_view dump.now) (m.versions_in (dump_view dump.now).entries))
         (keyed_from 0 (few (f.versions_changes (dump_view dump.now) rows.now.table
@@ -463,9 +515,11 @@ fn selected_history(
         ≡ s.dump_history (dump_view dump.now) table (select_view select.now)) }
 {
     let asked = asked_rows(alloc, select, spans_of(dump, table))?;
+    let narrow = narrowed(alloc, dump.versions.as_slice(), table, &asked)?;
     let rows = Rows {
         table,
         asked: &asked,
+        narrow: &narrow,
     };
     match history_lines(alloc, dump, &rows) {
         Ok(lines) => listed(alloc, lines),
@@ -480,7 +534,8 @@ fn selected_history(
 /// of SELECT * FROM the table WHERE the condition (E04 to E07); then by E25 and E26 of the transactions that committed, in the order of
 /// their versions; then by more than [`MAX_ANSWER_ROWS`] lines (E27).
 ///
-/// One run for each such transaction, up to its last INSERT, and one up to each statement that writes the table.
+/// One run for each such transaction, up to its last INSERT, and one up to each statement that writes the table: over the rows that are
+/// asked for alone, unless the transaction has inserted what a query gives into the table.
 pub fn history_answer(
     alloc: Global,
     dump: &Dump,

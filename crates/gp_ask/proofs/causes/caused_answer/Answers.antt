@@ -4,11 +4,7 @@ use Rattle.gp_syntax.specs.Views.{query_view, subject_view}
 use Rattle.gp_ask.specs.DifferenceForms.{causes_of, committed_writes, without_in}
 use Rattle.gp_ask.specs.Differences.{rows_in}
 use Rattle.gp_ask.specs.Computed.{what_if_answer}
-use Rattle.gp_ask.proofs.ProvenanceLemmas.{answerable}
 use Rattle.gp_ask.proofs.causes.caused_answer.Goals as goal
-
-pub ask_answer-requires-clause-rules : goal.ask_answer-requires-clause-rules
-ask_answer-requires-clause-rules c = answerable (dump_view c.args.dump.now) c.requires.rules
 
 pub cause_lines-requires : goal.cause_lines-requires
 cause_lines-requires c = record { asked = record { rules = c.requires.rules; valid = c.requires.valid; query = c.requires.query; few = c.requires.few } }

@@ -6,20 +6,16 @@ use Rattle.gp_syntax.specs.declared.question.Side.{Side}
 use Rattle.gp_syntax.specs.Views.{changes_view, query_view, side_view, subject_view}
 use Rattle.gp_ask.specs.declared.answered.Answered.{Answered}
 use Rattle.gp_ask.specs.Computed.{what_if_answer}
+use Rattle.gp_ask.specs.DifferenceForms.{history_of}
 use Rattle.gp_ask.specs.Differences.{side_answer}
-use Rattle.gp_ask.specs.Printed.{query_to}
-use Rattle.gp_ask.proofs.ProvenanceLemmas.{answerable}
 use Rattle.gp_ask.proofs.differences.side_answer.Goals as goal
-
-pub ask_answer-requires-clause-rules : goal.ask_answer-requires-clause-rules
-ask_answer-requires-clause-rules c = answerable (dump_view c.args.dump.now) c.requires.rules
 
 pub returns-in-Changed-clause-answered : goal.returns-in-Changed-clause-answered
 returns-in-Changed-clause-answered c =
     let dump = dump_view c.args.dump.now in
     subst
     (λ (side : Side). IfOk c.what_if_answer.result
-    (λ (answered : Answered). answered ≡ side_answer (query_to dump) (what_if_answer dump.entries) (side_view side) (query_view c.args.query.now)))
+    (λ (answered : Answered). answered ≡ side_answer (history_of c.args.mixed dump) (what_if_answer dump.entries) (side_view side) (query_view c.args.query.now)))
     (sym c.in-Changed.is)
     (subst
     (λ (own : List LogChange). IfOk c.what_if_answer.result

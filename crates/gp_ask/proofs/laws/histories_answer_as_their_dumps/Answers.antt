@@ -19,13 +19,14 @@ use Rattle.gp_versions.specs.Spans.{holds_at}
 use Rattle.gp_versions.specs.declared.span.Span.{Span}
 use Rattle.gp_whatif.specs.Replays.{IsCoherent}
 use Rattle.gp_dump.specs.Dumps.{dump_of}
+use Rattle.gp_ask.specs.Hypothetical.{replayed_dump}
 use Rattle.gp_ask.specs.Made.{unmade_refusal}
 use Rattle.gp_ask.specs.Printed.{answer_to, held_to}
 use Rattle.gp_ask.specs.Asking.{table_spans}
 use Rattle.gp_ask.proofs.CommittedLines.{commits}
 use Rattle.gp_ask.proofs.HeldLemmas.{forgetting, held}
 use Rattle.gp_ask.proofs.LivesLemmas.{lives}
-use Rattle.gp_ask.proofs.MadeLemmas.{is-remade, none-unmade}
+use Rattle.gp_ask.proofs.MadeLemmas.{IsRemade, is-remade, none-unmade}
 use Rattle.gp_ask.proofs.MeetsLemmas.{meets}
 use Rattle.gp_ask.proofs.SeenLemmas.{alters, sees}
 use Rattle.gp_ask.proofs.SpanLemmas.{dumped}
@@ -61,6 +62,9 @@ returns c = λ lines question.
     let bags : (table : ℕ) → SameBag (spans table) (state_spans (forgetting state) table) = λ table. unpermuted _ _ (dumped (forgetting state) beyond table) in
     let whole : tables_in state.entries ≡ state.catalogue = tables-kept monomials parameters start lines refl in
     let plain-tables : tables_in (after unannotated parameters start lines).entries ≡ (after unannotated parameters start lines).catalogue = tables-kept unannotated parameters start lines refl in
+    let remade : IsRemade (after unannotated parameters start lines) =
+    is-remade (after unannotated parameters start lines) plain-tables (c.histories_are_replayed_as_they_were.ensures.unstopped lines targets-checked plain-tables)
+    (c.histories_are_replayed_as_they_were.ensures.spans lines targets-checked plain-tables) in
     subst (λ (s : State (Unit {0})). answer_to (dump_of s) question ≡ held_to state question) (sym same)
     (held state kept whole
     (sees state reached plainly sessions once whole tables bags)
@@ -74,7 +78,6 @@ returns c = λ lines question.
     (λ how point query. c.unstopped_histories_answer_as_their_dumps.ensures state (c.histories_do_not_stop.ensures.reached monomials parameters lines) (tables-kept monomials parameters start lines refl)
     (dump_of (forgetting state)).tables moved how point query)
     (subst (λ (s : State (Unit {0})). unmade_refusal (dump_of s) ≡ None) same
-    (none-unmade c.agreement_is_having_the_same_rows.ensures.agrees (after unannotated parameters start lines)
-    (is-remade (after unannotated parameters start lines) plain-tables (c.histories_are_replayed_as_they_were.ensures.unstopped lines targets-checked plain-tables)
-    (c.histories_are_replayed_as_they_were.ensures.spans lines targets-checked plain-tables))))
+    (none-unmade c.agreement_is_having_the_same_rows.ensures.agrees (after unannotated parameters start lines) remade))
+    (subst (λ (s : State (Unit {0})). replayed_dump s.entries ≡ dump_of s) same remade.1)
     (subst (λ (s : State (Unit {0})). difference (dump_of s) ≡ None) same (complete lines)) question)

@@ -12,7 +12,7 @@ use Rattle.gp_reenact.specs.Reenacting.{spans_of}
 use Rattle.gp_versions.specs.Spans.{rows_at}
 use Rattle.gp_versions.specs.declared.span.Span.{Span}
 use Rattle.gp_ask.specs.MadeForms.{HaveSameRows}
-use Rattle.gp_ask.proofs.MadeSpans.{first-found, flag-at, none-more, table-at}
+use Rattle.gp_ask.proofs.MadeSpans.{first-found, flag-at, moved-rows, none-more, table-at}
 use Rattle.gp_ask.proofs.made.version_refusal.Goals as goal
 
 pub differ-requires : goal.differ-requires
@@ -24,7 +24,7 @@ differ-requires c = λ off.
     let flagged : place < length c.args.flags.now = omega (arith, c.loop-place-test.true, c.requires.flags.as_many) in
     subst (λ (spans : List Span). HaveSameRows spans c.index-others-place.result.spans) (table-at tables place c.index-tables-place.result c.loop-place-test.true c.index-tables-place.is)
     (subst (λ (spans : List Span). HaveSameRows (spans_of tables place) spans) (table-at others place c.index-others-place.result below c.index-others-place.is)
-    (c.requires.flags.same place (flag-at c.args.flags.now place false flagged off)))
+    (moved-rows (spans_of tables place) (spans_of others place) (c.requires.flags.same place (flag-at c.args.flags.now place false flagged off))))
 
 pub returns-then-branch : goal.returns-then-branch
 returns-then-branch c =

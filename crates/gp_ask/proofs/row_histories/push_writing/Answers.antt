@@ -30,5 +30,5 @@ returns c =
     let own = changing.own in
     let statement = statement_view own.stmt.now in
     let asked : Identity → Bool = λ (id : Identity). is_some (get identity_cmp changing.asked.now id) in
-    let same = ap (f.rows_changes asked changing.version own.t own.k statement own.table) (c.deref.ensures.value ∙ c.in_ok-rows.ensures) ∙ own-changes dump own.table asked changing.version own.t own.k statement c.requires.own.target in
+    let same = ap (f.rows_changes asked changing.version own.t own.k statement own.table) c.deref.ensures.value ∙ c.in_ok-rows.ensures ∙ own-changes dump own.table asked changing.version own.t own.k statement c.requires.own.target in
     subst (λ (more : List RowLine). OnOk c.push_rows.result (f.Pushes more c.args.lines.now.items c.push_rows.new.lines.items)) same c.push_rows.ensures

@@ -1,4 +1,4 @@
-use Rattle.std.proofs.Common.{◌≡◌, ◌∙◌, Bool, Global, Vec, ap, subst}
+use Rattle.std.proofs.Common.{◌≡◌, ◌∙◌, Bool, Global, List, Vec, ap, subst, ℕ}
 use Rattle.std.specs.BTreeMap.{get}
 use Rattle.std.specs.List.{list_any}
 use Rattle.std.specs.Option.{is_some}
@@ -10,15 +10,24 @@ use Rattle.gp_dump.specs.Dumps.{Dump}
 use Rattle.gp_dump.specs.Views.{dump_view}
 use Rattle.gp_log.specs.LogFacts.{tables_in}
 use Rattle.gp_machine.specs.Entries.{versions_in}
+use Rattle.gp_reenact.specs.Reenacting.{spans_of}
+use Rattle.gp_versions.specs.declared.span.Span.{Span}
 use Rattle.gp_ask.specs.declared.answered.Answered.{Answered}
 use Rattle.gp_ask.specs.declared.answered.Answered.TheVariants.{Refused}
-use Rattle.gp_ask.specs.HistoryForms.{span_asks}
+use Rattle.gp_ask.specs.HistoryForms.{narrowed, span_asks}
 use Rattle.gp_ask.specs.RowHistories as s
 use Rattle.gp_ask.proofs.HistoryLines.{found-history, refused-history, simple-select}
+use Rattle.gp_ask.proofs.ReenactedLemmas.{dump-spans}
 use Rattle.gp_ask.proofs.row_histories.selected_history.Goals as goal
 
 pub asked_rows-requires : goal.asked_rows-requires
 asked_rows-requires c = simple-select (tables_in (dump_view c.args.dump.now).entries) (select_view c.args.select.now) c.requires.fits
+
+pub history_lines-requires-clause-narrow : goal.history_lines-requires-clause-narrow
+history_lines-requires-clause-narrow c =
+    let asked : Identity → Bool = λ (id : Identity). is_some (get identity_cmp c.in_ok-asked.asked id) in
+    ap spans_of c.deref.ensures.value ∙ c.in_ok-narrow.ensures
+    ∙ ap (λ (spans : ℕ → List Span). narrowed spans c.args.table asked) (ap spans_of c.as_slice.ensures ∙ dump-spans c.args.dump.now.versions)
 
 pub returns-in-Ok : goal.returns-in-Ok
 returns-in-Ok c =

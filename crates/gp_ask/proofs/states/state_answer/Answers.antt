@@ -67,6 +67,7 @@ returns-in-Provenance-clause-kept c =
       polynomial = old.polynomial;
       witness = old.witness;
       without = old.without;
+      is_made = old.is_made;
     }
 
 pub returns-in-Without-clause-kept : goal.returns-in-Without-clause-kept
@@ -81,4 +82,5 @@ returns-in-Without-clause-kept c =
       polynomial = old.polynomial;
       witness = old.witness;
       without = c.remaining_answer.ensures.kept;
+      is_made = old.is_made;
     }
