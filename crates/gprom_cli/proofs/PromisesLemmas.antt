@@ -46,7 +46,7 @@ use Rattle.gp_ask.specs.Asking.{Programs}
 use Rattle.gp_ask.specs.Programs.{program_lines, programs_in, sql_lines}
 use Rattle.gp_ask.specs.SqlAnswers.{AreStored, AsksLines}
 use Rattle.gp_ask.specs.declared.answered.Answered as reply
-use Rattle.gp_ask.specs.Compared.{AnswersAsMade, compares_rows}
+use Rattle.gp_ask.specs.Compared.{AnswersAsMade, compares_histories}
 use Rattle.gp_ask.specs.Explained.{ExplainsLines}
 use Rattle.gp_ask.specs.Hypothetical.{remaking_refusal, replayed_dump}
 use Rattle.gp_ask.specs.Isolated.{IsIsolated, LosesToFirst}
@@ -168,7 +168,7 @@ pub record DumpLaws : Type 0 where
   pub programs : (tables : List Table) (program other : PlainProgram) → HaveDifferentNames tables → is_spellable tables program ≡ true → is_spellable tables other ≡ true
       → program_text tables program ≡ program_text tables other → program ≡ other
   pub queries : (tables : List Table) (text : List ℕ) (query other : With) → HaveOwnNames tables → SpellsQuery tables query text → SpellsQuery tables other text → query ≡ other
-  pub compared : (programs : Programs) (dump : Dump) → IsDump dump → (question : y.Question) → compares_rows question ≡ true → AnswersAsMade programs dump question
+  pub compared : (programs : Programs) (dump : Dump) (question : y.Question) → compares_histories question ≡ true → AnswersAsMade programs dump question
   pub isolated : (lines : List Line) → IsIsolated (after monomials parameters start lines)
   pub lost : (lines : List Line) → LosesToFirst (after monomials parameters start lines)
   pub remade : (dump : Dump) → IsDump dump → (changes : List y.LogChange) (entries : List Entry) → changed_log parameters dump.entries changes ≡ Ok entries
@@ -207,7 +207,7 @@ promised laws call has = record {
   checked = λ bytes contents formed none.
       let history = laws.checked contents (dumps.whole-text bytes contents formed).rules none in
       (history, λ format question. ap (λ (own : Dump). answer_to (programs_in format) own question) history.is ∙ laws.held (programs_in format) history.lines question);
-  compared = λ format bytes contents question formed is. laws.compared (programs_in format) contents (dumps.whole-text bytes contents formed).rules question is;
+  compared = λ format. laws.compared (programs_in format);
   isolated = λ lines. subst IsIsolated (sym (state-taken monomials lines start)) (laws.isolated (taken lines));
   lost = λ lines. subst LosesToFirst (sym (state-taken monomials lines start)) (laws.lost (taken lines));
   remade = λ bytes contents changes entries formed made none. laws.remade contents (dumps.whole-text bytes contents formed).rules changes entries made none;

@@ -70,8 +70,8 @@ use Rattle.gp_ask.specs.AskingForms.{dump_program, dump_provenance, dump_remaini
 use Rattle.gp_ask.specs.ValueForms.{dump_minimal, dump_valued, dump_values}
 use Rattle.gp_ask.specs.Deltas.{Signed, delta, with_sign}
 use Rattle.gp_ask.specs.Differences as answers
-use Rattle.gp_ask.specs.DifferenceForms.{causes_of, committed_writes, diff_of, without_in}
-use Rattle.gp_ask.specs.Differences.{mixed_refusal, side_answer}
+use Rattle.gp_ask.specs.DifferenceForms.{causes_of, committed_writes, diff_of, history_of, without_in}
+use Rattle.gp_ask.specs.Differences.{are_mixed, mixed_refusal, side_answer}
 use Rattle.gp_ask.specs.Hypothetical.{asking_refusal, remaking_refusal, replayed_dump}
 use Rattle.gp_ask.specs.Operations.{number_refusal, operations_of, value_of}
 use Rattle.gp_ask.specs.Values.{or_refused, rule_of, unless_refused, valued, with_values}
@@ -338,10 +338,11 @@ few-answer dump y.serial =
 few-answer dump y.check = omega arith
 few-answer dump (y.diff first second query) =
     few-unless (mixed_refusal (unmade_refusal dump) dump.entries first second query) _
-    (few-diff (answers.rows_in (side_answer (query_to dump) (what_if_answer dump.entries) first query)) (answers.rows_in (side_answer (query_to dump) (what_if_answer dump.entries) second query)))
+    (few-diff (answers.rows_in (side_answer (history_of (are_mixed first second) dump) (what_if_answer dump.entries) first query))
+    (answers.rows_in (side_answer (history_of (are_mixed first second) dump) (what_if_answer dump.entries) second query)))
 few-answer dump (y.causes subject query) =
     few-unless (option_or (asking_refusal dump.entries subject query) (unmade_refusal dump)) _
-    (few-causes (without_in (what_if_answer dump.entries) subject query) (committed_writes dump.entries) (answers.rows_in (query_to dump subject query)))
+    (few-causes (without_in (what_if_answer dump.entries) subject query) (committed_writes dump.entries) (answers.rows_in (query_to (replayed_dump dump.entries) subject query)))
 few-answer dump (y.ask subject query) = few-query dump subject query
 few-answer dump (y.what_if changes subject query) = few-changed (changed_log parameters dump.entries changes) subject query
 few-answer dump (y.explain_saw t k query) =

@@ -33,7 +33,7 @@ use Rattle.gp_ask.specs.declared.answered.Answered.TheVariants.{Sheet}
 use Rattle.gp_ask.specs.Answers.{answer_to, held_to}
 use Rattle.gp_ask.specs.declared.format.Format.{Format}
 use Rattle.gp_ask.specs.declared.format.Format.TheVariants.{Text, Named, Sql}
-use Rattle.gp_ask.specs.Compared.{AnswersAsMade, compares_rows}
+use Rattle.gp_ask.specs.Compared.{AnswersAsMade, compares_histories}
 use Rattle.gp_ask.specs.Explained.{ExplainsLines}
 use Rattle.gp_ask.specs.Formats.{text_in}
 use Rattle.gp_ask.specs.Hypothetical.{remaking_refusal, replayed_dump}
@@ -93,10 +93,9 @@ pub record Promises (call : Call) : Type 0 where
   pub checked : (bytes : List ℕ) (contents : Dump) → WellFormed bytes contents → difference contents ≡ None
       → (history : IsOfHistory contents)
       × ((format : Format) (question : y.Question) → answer_to (shown format) contents question ≡ held_to (shown format) (after monomials parameters start history.lines) question)
-  -- CAUSES, and DIFF with a changed history, answer from any dump as from the one that its log makes, or are refused since its rows are others, if no rows are left
-  -- out by their provenance. So they blame no statement for rows that the log does not make.
-  pub compared : (format : Format) (bytes : List ℕ) (contents : Dump) (question : y.Question) → WellFormed bytes contents → compares_rows question ≡ true
-      → AnswersAsMade (shown format) contents question
+  -- CAUSES, and DIFF with a changed history, answer from any dump as from the one that its log makes, or are refused since its rows are others. So they blame no
+  -- statement for rows, or for provenance of rows, that the log does not make.
+  pub compared : (format : Format) (contents : Dump) (question : y.Question) → compares_histories question ≡ true → AnswersAsMade (shown format) contents question
   -- Each transaction of a history is isolated as its BEGIN says, whatever became of it, and the first committer of a row wins: the rows that a commit wrote were
   -- written by no commit after their bases, and no transaction is lost where this holds of its rows. So it is in the history that the commits of the changed
   -- log of any dump, made again, lead to, where none of them stops.
