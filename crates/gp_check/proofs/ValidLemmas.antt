@@ -250,16 +250,9 @@ side-valid _ _ (q.as_is a subject i) h none = refl
 side-valid _ _ (q.changed a b changes subject i j) h none = changes-valid a changes i (first a (Word (codes "of") ∷ b) h.1) none
 
 question-valid : (a : Lexemes) (x : Question) → IsOpenQuestion a x → AreOfText a → passed_limit (question_shape x) ≡ None → question_is_valid x ≡ true
-question-valid _ _ q.transactions h none = refl
-question-valid _ _ (q.log n) h none = refl
-question-valid _ _ (q.versions table) h none = refl
-question-valid _ _ (q.changes t k) h none = refl
-question-valid _ _ (q.commit_changes t) h none = refl
-question-valid _ _ (q.conflicts t) h none = refl
+question-valid _ _ (q.bare a question i) h none = refl
 question-valid _ _ (q.history table a cond i) h none = condition-valid a cond i h.1.1.1
 question-valid _ _ (q.when a query i) h none = query-valid a query i h.1 none
-question-valid _ _ q.serial h none = refl
-question-valid _ _ q.check h none = refl
 question-valid _ _ (q.diff a b c x z query i j k) h none =
     let within : (passed_limit (both (side_shape x) (side_shape z)) ≡ None) × (passed_limit (query_shape query) ≡ None) = both-within (both (side_shape x) (side_shape z)) (query_shape query) none in
     let sides : (passed_limit (side_shape x) ≡ None) × (passed_limit (side_shape z) ≡ None) = both-within (side_shape x) (side_shape z) within.0 in

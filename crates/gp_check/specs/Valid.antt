@@ -75,16 +75,9 @@ side_is_valid (y.changed changes subject) = changes_are_valid changes
 
 -- the query or the condition of a question and the commands of its changes, if it has them
 abbrev pub question_is_valid : Question → Bool
-question_is_valid y.transactions = true
-question_is_valid (y.log t) = true
-question_is_valid (y.versions table) = true
-question_is_valid (y.changes t k) = true
-question_is_valid (y.commit_changes t) = true
-question_is_valid (y.conflicts t) = true
+question_is_valid (y.bare question) = true
 question_is_valid (y.history table cond) = condition_is_valid cond
 question_is_valid (y.when query) = query_is_valid query
-question_is_valid y.serial = true
-question_is_valid y.check = true
 question_is_valid (y.diff first second query) = (side_is_valid first && side_is_valid second) && query_is_valid query
 question_is_valid (y.causes subject query) = query_is_valid query
 question_is_valid (y.ask subject query) = query_is_valid query

@@ -1,16 +1,8 @@
 -- The parsers of terms leave fewer lexemes than they take, and the bound on their recursion does not matter where it is large enough.
-use Rattle.std.proofs.Common.{◌≡◌, ℕ, zero, suc, pos, ◌<◌, ◌≤◌, List, [], ◌∷◌, length, Option, Some, None, Ok, Err, IfOk, IfSome, Bool, true, false, cond, refl, sym, ap, subst, arith, ◌∙◌}
-use Rattle.gp_lexer.specs.declared.lexeme.Symbol.{Symbol}
+use Rattle.gp_grammar.proofs.Prelude.{◌≡◌, ℕ, zero, suc, pos, ◌<◌, ◌≤◌, List, [], ◌∷◌, length, Option, Some, None, Ok, Err, IfOk, IfSome, Bool, true, false, cond, refl, sym, ap, subst, arith, ◌∙◌, Symbol, Lexeme, Sign, Word, Number, Big, Text, Level, Op, Lexemes, Term, null, int, text, col, binary, neg, not, is_null, is_true, case, operator_of, comparison_of, Outcome, Parser, is_symbol, ◌>>=◌, strip, expected, identifier, next_operator, by_option, with_rest}
 use Rattle.gp_lexer.specs.declared.lexeme.Symbol.TheVariants as s
-use Rattle.gp_lexer.specs.declared.lexeme.Lexeme.{Lexeme}
-use Rattle.gp_lexer.specs.declared.lexeme.Lexeme.TheVariants.{Symbol as Sign, Word, Number, Big, Text}
-use Rattle.gp_grammar.specs.declared.level.Level.{Level}
 use Rattle.gp_grammar.specs.declared.level.Level.TheVariants as l
-use Rattle.gp_grammar.specs.declared.op.Op.{Op}
-use Rattle.gp_grammar.specs.Syntax.{Lexemes, Term, null, int, text, col}
-use Rattle.gp_grammar.specs.Capping.{binary, neg, not, is_null, is_true, case}
-use Rattle.gp_grammar.specs.Operators.{operator_of, comparison_of}
-use Rattle.gp_grammar.specs.Parsing.{Outcome, Parser, is_symbol, ◌>>=◌, strip, expected, expect, identifier, next_operator, by_option, with_rest, chain_within, chain, joined, column_with, column, truth_test, value_test, is_test, optional_test, brackets, choice, primary_by, primary, signed, factor, sum, compared, full_test, negated, negation, operand, operations, term_within, term}
+use Rattle.gp_grammar.specs.Parsing.{expect, chain_within, chain, joined, column_with, column, truth_test, value_test, is_test, optional_test, brackets, choice, primary_by, primary, signed, factor, sum, compared, full_test, negated, negation, operand, operations, term_within, term}
 
 -- two outcomes are equal, and leave fewer lexemes than this
 pub record Agree {A : Type 0} (n : ℕ) (p q : Outcome (A × Lexemes)) : Type 0 where

@@ -1,13 +1,8 @@
 -- The first limit of two parts is the first of those that they pass.
-use Rattle.std.proofs.Common.{◌≡◌, ℕ, Bool, true, false, cond, ltb, List, ◌++◌, map, Option, Some, None, refl, sym, ap, ◌∙◌, arith, nat_lt}
-use Rattle.std.specs.Prelude.{◌||◌, max}
-use Rattle.std.proofs.lemmas.Bool.Decides.{nat_tests}
-use Rattle.std.proofs.lemmas.List.{map-append}
+use Rattle.gp_grammar.proofs.Prelude.{◌≡◌, ℕ, Bool, true, false, cond, ltb, List, ◌++◌, map, Option, Some, None, refl, sym, ap, ◌∙◌, arith, ◌||◌, max, nat_tests, map-append, MAX_COLUMNS, MAX_FROM, MAX_BRANCHES, MAX_VALUES, MAX_NODES, MAX_LEVELS, MAX_CHANGES, Term, Limit, Shape, nodes, levels, some_above, both, passed_limit}
+use Rattle.std.proofs.Common.{nat_lt}
 use Rattle.std.proofs.lemmas.List.Folds.{list_any-append}
-use Rattle.gp_grammar.specs.declared.limits.TheConstants.{MAX_COLUMNS, MAX_FROM, MAX_BRANCHES, MAX_VALUES, MAX_NODES, MAX_LEVELS, MAX_CHANGES}
-use Rattle.gp_grammar.specs.Syntax.{Term}
 use Rattle.gp_grammar.specs.Limits as l
-use Rattle.gp_grammar.specs.Limits.{Limit, Shape, nodes, levels, some_above, both, passed_limit}
 use Rattle.gp_grammar.proofs.ShapeLemmas.{first_limit, of_shape, some_large}
 
 -- the place of a limit in the order of the tests

@@ -1,19 +1,10 @@
 -- What the parser builds for a phrase: the capped tree of a tree that the grammar derives. One lemma for each rule that has a term in it.
-use Rattle.std.proofs.Common.{◌≡◌, ℕ, pos, true, false, [], ◌∷◌, ◌++◌, Some, None, refl, ap, ◌∙◌}
-use Rattle.gp_lexer.specs.declared.lexeme.Symbol.{Symbol}
+use Rattle.gp_grammar.proofs.Prelude.{◌≡◌, ℕ, pos, true, false, [], ◌∷◌, ◌++◌, Some, None, refl, ap, ◌∙◌, Symbol, Sign, Word, Number, Text, Level, Op, Lexemes, Bytes, Term, operator_of, comparison_of, capped, Built, Phrase, Derives, operand}
 use Rattle.gp_lexer.specs.declared.lexeme.Symbol.TheVariants as s
-use Rattle.gp_lexer.specs.declared.lexeme.Lexeme.TheVariants.{Symbol as Sign, Word, Number, Text}
-use Rattle.gp_grammar.specs.declared.level.Level.{Level}
 use Rattle.gp_grammar.specs.declared.level.Level.TheVariants as l
-use Rattle.gp_grammar.specs.declared.op.Op.{Op}
 use Rattle.gp_grammar.specs.Syntax as syntax
-use Rattle.gp_grammar.specs.Syntax.{Lexemes, Bytes, Term}
-use Rattle.gp_grammar.specs.Operators.{operator_of, comparison_of}
 use Rattle.gp_grammar.specs.Capping as c
-use Rattle.gp_grammar.specs.Capping.{capped}
-use Rattle.gp_grammar.specs.Laws.{Built}
 use Rattle.gp_grammar.specs.Grammar as g
-use Rattle.gp_grammar.specs.Grammar.{Phrase, Derives, operand}
 
 abbrev pub Builds : Phrase → Lexemes → Term → Type 0
 Builds p = Built (Derives p) capped

@@ -1,23 +1,11 @@
 -- The canonical lexemes of a command within the limits pass the count of open brackets.
-use Rattle.std.proofs.Common.{◌≡◌, ℕ, suc, pos, negsuc, ◌≤◌, Bool, true, false, cond, ltb, eqb, List, [], ◌∷◌, ◌++◌, map, Option, Some, None, refl, sym, ap, ◌∙◌, arith}
-use Rattle.std.specs.Prelude.{◌^◌}
-use Rattle.std.specs.Str.{bytes_eq}
-use Rattle.std.specs.List.{flat_map}
-use Rattle.std.proofs.lemmas.List.{append-nil}
-use Rattle.std.proofs.lemmas.Bool.{ltb-false, or_parts}
-use Rattle.gp_base.specs.declared.cell.Cell.{Cell}
+use Rattle.gp_grammar.proofs.Prelude.{◌≡◌, ℕ, suc, pos, negsuc, ◌≤◌, Bool, true, false, cond, ltb, eqb, List, [], ◌∷◌, ◌++◌, map, Option, Some, None, refl, sym, ap, ◌∙◌, arith, ◌^◌, bytes_eq, flat_map, append-nil, ltb-false, or_parts, Cell, Column, Sign, Word, Number, Big, MAX_LEVELS, MAX_OPEN, Lexemes, Bytes, Term, SetTerm, Item, Items, Block, Query, Command, Shape, levels, some_above, passed_limit, terms_of_condition, select_terms, terms_of_query, command_shape, is_too_deep, term_lexemes, joined_lexemes, listed_lexemes, column_definition_lexemes, cell_lexemes, tuple_lexemes, item_lexemes, items_lexemes, condition_lexemes, block_lexemes, query_lexemes, set_lexemes, command_lexemes}
 use Rattle.gp_base.specs.declared.cell.Cell.TheVariants as cell
-use Rattle.gp_base.specs.declared.table.Column.{Column}
 use Rattle.gp_base.specs.declared.table.Kind.{Kind}
 use Rattle.gp_base.specs.declared.table.Kind.TheVariants as kind
 use Rattle.gp_lexer.specs.declared.lexeme.Symbol.TheVariants as s
-use Rattle.gp_lexer.specs.declared.lexeme.Lexeme.TheVariants.{Symbol as Sign, Word, Number, Big}
-use Rattle.gp_grammar.specs.declared.limits.TheConstants.{MAX_LEVELS, MAX_OPEN}
 use Rattle.gp_grammar.specs.Syntax as syntax
-use Rattle.gp_grammar.specs.Syntax.{Lexemes, Bytes, Term, SetTerm, Item, Items, Block, Query, Command}
-use Rattle.gp_grammar.specs.Limits.{Shape, levels, some_above, passed_limit, terms_of_condition, select_terms, terms_of_query, command_shape}
-use Rattle.gp_grammar.specs.Depth.{is_too_deep}
-use Rattle.gp_grammar.specs.Canonical.{kind_lexeme, term_lexemes, joined_lexemes, listed_lexemes, column_definition_lexemes, cell_lexemes, tuple_lexemes, item_lexemes, items_lexemes, condition_lexemes, block_lexemes, query_lexemes, set_lexemes, command_lexemes}
+use Rattle.gp_grammar.specs.Canonical.{kind_lexeme}
 use Rattle.gp_grammar.proofs.ShapeLemmas.{first_limit, of_shape}
 use Rattle.gp_grammar.proofs.CanonicalDepth.{Balanced, both, in-brackets, term-balanced}
 
@@ -73,7 +61,7 @@ list-even n separator f w k (x ∷ xs) = both n (f x) (flat_map (λ y. separator
 comma-balanced : (n : ℕ) → Balanced n (Sign s.Comma ∷ [])
 comma-balanced n room rest h = refl
 
--- the same for lists of terms and of things with terms in them
+-- lists of terms and of things with terms in them are balanced
 terms-flat : (xs : List Term) → AreShallow xs → Even (flat_map (λ y. Sign s.Comma ∷ term_lexemes y) xs)
 unfolding AreShallow
 terms-flat [] h = even-none

@@ -1,14 +1,10 @@
 -- Canonical lexemes nest no deeper than the term has levels.
-use Rattle.std.proofs.Common.{◌≡◌, ℕ, zero, suc, pos, negsuc, ◌≤◌, Bool, true, false, List, [], ◌∷◌, ◌++◌, Option, Some, None, refl, ap, arith, ◌∙◌, append_assoc}
+use Rattle.gp_grammar.proofs.Prelude.{◌≡◌, ℕ, zero, suc, pos, negsuc, ◌≤◌, Bool, true, false, List, [], ◌∷◌, ◌++◌, Option, Some, None, refl, ap, arith, ◌∙◌, append_assoc, Sign, Text, Op, Lexemes, Term, null, int, text, col, term_lexemes, bracketed, symbol_of, is_too_deep, levels}
 use Rattle.std.specs.Prelude.{ℤ}
 use Rattle.gp_lexer.specs.declared.lexeme.Symbol.TheVariants as s
-use Rattle.gp_lexer.specs.declared.lexeme.Lexeme.TheVariants.{Symbol as Sign, Text}
-use Rattle.gp_grammar.specs.declared.op.Op.{Op}
 use Rattle.gp_grammar.specs.declared.op.Op.TheVariants as op
-use Rattle.gp_grammar.specs.Syntax.{Lexemes, Term, null, int, text, col, binary, neg, not, is_null, is_true, case}
-use Rattle.gp_grammar.specs.Canonical.{term_lexemes, bracketed, symbol_of, number_lexemes, column_lexemes, is_lexemes}
-use Rattle.gp_grammar.specs.Depth.{is_too_deep}
-use Rattle.gp_grammar.specs.Limits.{levels}
+use Rattle.gp_grammar.specs.Syntax.{binary, neg, not, is_null, is_true, case}
+use Rattle.gp_grammar.specs.Canonical.{number_lexemes, column_lexemes, is_lexemes}
 
 -- the lexemes leave the room as it was, where there is this much
 abbrev pub Balanced : ℕ → Lexemes → Type 0

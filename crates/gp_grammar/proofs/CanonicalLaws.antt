@@ -1,27 +1,13 @@
 -- The laws of canonical lexemes.
-use Rattle.std.proofs.Common.{◌≡◌, ℕ, true, false, List, [], ◌∷◌, Some, None, Ok, Err, refl, ap, ◌∙◌}
-use Rattle.std.specs.List.{AllByRecursion}
+use Rattle.gp_grammar.proofs.Prelude.{◌≡◌, ℕ, true, false, List, [], ◌∷◌, Some, None, Ok, Err, refl, ap, ◌∙◌, AllByRecursion, result_ok, IsUtf8, IsUtf8-from_is_utf8, laid_out, Lexed, lexed, lexemes_of, IsProper, AreProper, Lexemes, Bytes, Command, capped_command, IsCommand, command_shape, passed_limit, command_lexemes, command_text, ReadsText, command}
 use Rattle.std.specs.Option.{option_map}
-use Rattle.std.specs.Result.{result_ok}
-use Rattle.std.specs.Str.{IsUtf8, chars, is_utf8}
-use Rattle.std.proofs.lemmas.Str.{IsUtf8-from_is_utf8}
-use Rattle.gp_lexer.specs.Layout.{laid_out}
+use Rattle.std.specs.Str.{chars, is_utf8}
 use Rattle.gp_lexer.specs.Lexing as lex
-use Rattle.gp_lexer.specs.Lexing.{Lexed, lexed}
-use Rattle.gp_lexer.specs.LexResults.{lexemes_of}
 use Rattle.gp_lexer.proofs.LayoutLemmas.{lexemes_of-laid_out}
 use Rattle.gp_lexer.proofs.ProperLemmas.{lexemes-proper}
 use Rattle.gp_lexer.specs.Lexemes.{symbol_text}
-use Rattle.gp_lexer.specs.ProperLexemes.{IsProper, AreProper}
 use Rattle.gp_grammar.specs.Syntax as y
-use Rattle.gp_grammar.specs.Syntax.{Lexemes, Bytes, Command}
-use Rattle.gp_grammar.specs.Capping.{capped_command}
-use Rattle.gp_grammar.specs.CommandGrammar.{IsCommand}
-use Rattle.gp_grammar.specs.Limits.{command_shape, passed_limit}
-use Rattle.gp_grammar.specs.Canonical.{command_lexemes, command_text}
-use Rattle.gp_grammar.specs.LineReading.{ReadsText}
 use Rattle.gp_grammar.specs.Reading.{command_of}
-use Rattle.gp_grammar.specs.CommandParsing.{command}
 use Rattle.gp_grammar.specs.Laws.{CanonicalIsDerived, CanonicalIsParsed, CanonicalIsShallow, CanonicalIsProper, CanonicalTextIsRead, CanonicalTextIsUtf8, CanonicalTextIsOneLine}
 use Rattle.gp_grammar.proofs.ParserLaws.{lawful-command}
 use Rattle.gp_grammar.proofs.ShapeLemmas.{command-exact, commands-fair}

@@ -1,16 +1,9 @@
 -- The grammar derives a term from its canonical lexemes.
-use Rattle.std.proofs.Common.{◌≡◌, Some, refl, subst}
-use Rattle.gp_lexer.specs.declared.lexeme.Symbol.{Symbol}
+use Rattle.gp_grammar.proofs.Prelude.{◌≡◌, Some, refl, subst, Symbol, Level, Op, Lexemes, Term, operator_of, comparison_of, Phrase, Derives, IsTerm, operand, symbol_of, term_lexemes, bracketed}
 use Rattle.gp_lexer.specs.declared.lexeme.Symbol.TheVariants as s
-use Rattle.gp_grammar.specs.declared.level.Level.{Level}
 use Rattle.gp_grammar.specs.declared.level.Level.TheVariants as l
-use Rattle.gp_grammar.specs.declared.op.Op.{Op}
 use Rattle.gp_grammar.specs.declared.op.Op.TheVariants as op
-use Rattle.gp_grammar.specs.Syntax.{Lexemes, Term}
-use Rattle.gp_grammar.specs.Operators.{operator_of, comparison_of}
-use Rattle.gp_grammar.specs.Grammar.{Phrase, Derives, IsTerm, operand}
 use Rattle.gp_grammar.specs.Grammar as g
-use Rattle.gp_grammar.specs.Canonical.{symbol_of, term_lexemes, bracketed}
 
 pub lift : (p : Phrase) (a : Lexemes) (x : Term) → Derives g.primary a x → Derives p a x
 lift (g.operations l.Disjunction) a x i = g.one_operand l.Disjunction a x (g.one_operand l.Conjunction a x (g.not_negated a x (g.no_test a x (g.not_compared a x (g.one_operand l.Sum a x (g.one_operand l.Product a x (g.not_signed a x i)))))))

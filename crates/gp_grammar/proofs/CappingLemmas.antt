@@ -1,12 +1,7 @@
 -- A term within the limit on nodes is built as it is, and one past the limit is built past the limit.
-use Rattle.std.proofs.Common.{◌≡◌, ◌+◌, ◌<◌, ◌≤◌, Bool, true, false, cond, ltb, refl, sym, ap, subst, arith, ◌∙◌}
-use Rattle.std.proofs.lemmas.Bool.{ltb-false, ltb-true}
-use Rattle.gp_grammar.specs.declared.limits.TheConstants.{MAX_NODES}
-use Rattle.gp_grammar.specs.declared.op.Op.{Op}
+use Rattle.gp_grammar.proofs.Prelude.{◌≡◌, ◌+◌, ◌<◌, ◌≤◌, Bool, true, false, cond, ltb, refl, sym, ap, subst, arith, ◌∙◌, ltb-false, ltb-true, MAX_NODES, Op, Term, nodes, is_large, capped}
 use Rattle.gp_grammar.specs.Syntax as syntax
-use Rattle.gp_grammar.specs.Syntax.{Term}
-use Rattle.gp_grammar.specs.Limits.{nodes}
-use Rattle.gp_grammar.specs.Capping.{is_large, capped, binary, neg, not, is_null, is_true, case}
+use Rattle.gp_grammar.specs.Capping.{binary, neg, not, is_null, is_true, case}
 
 -- `built` is built for `x`
 pub record Fair (x built : Term) : Type 0 where

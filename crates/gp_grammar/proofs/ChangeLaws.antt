@@ -1,16 +1,9 @@
 -- The commands of the changes in a question that was read are statements.
-use Rattle.std.proofs.Common.{◌≡◌, List, [], ◌∷◌, true, Ok, refl, ◌∙◌}
+use Rattle.gp_grammar.proofs.Prelude.{◌≡◌, List, [], ◌∷◌, true, Ok, refl, ◌∙◌, Lexemes, Bytes, LogChange, Side, Question, capped_question, IsChange, IsChanges, IsSide, IsOpenQuestion, IsQuestion, question_shape, ReadsLine, question_of, question}
 use Rattle.std.proofs.lemmas.Bool.{and_from}
 use Rattle.std.proofs.lemmas.List.Folds.{list_all-append}
-use Rattle.gp_grammar.specs.Syntax.{Lexemes, Bytes, LogChange, Side, Question}
-use Rattle.gp_grammar.specs.Capping.{capped_question}
 use Rattle.gp_grammar.specs.CommandGrammar as l
 use Rattle.gp_grammar.specs.QuestionGrammar as g
-use Rattle.gp_grammar.specs.QuestionGrammar.{IsChange, IsChanges, IsSide, IsOpenQuestion, IsQuestion}
-use Rattle.gp_grammar.specs.Limits.{question_shape}
-use Rattle.gp_grammar.specs.LineReading.{ReadsLine}
-use Rattle.gp_grammar.specs.Reading.{question_of}
-use Rattle.gp_grammar.specs.QuestionParsing.{question}
 use Rattle.gp_grammar.specs.Laws.{has_statement, have_statements, has_statements, side_has_statements}
 use Rattle.gp_grammar.proofs.LineLaws.{lines-read}
 use Rattle.gp_grammar.proofs.ParserLaws.{lawful-question}
@@ -32,16 +25,9 @@ side-statements _ _ (g.as_is a subject i) = refl
 side-statements _ _ (g.changed a b changes subject i j) = changes-statements a changes i
 
 open-statement : (a : Lexemes) (x : Question) → IsOpenQuestion a x → has_statements x ≡ true
-open-statement _ _ g.transactions = refl
-open-statement _ _ (g.log t) = refl
-open-statement _ _ (g.versions table) = refl
-open-statement _ _ (g.changes t k) = refl
-open-statement _ _ (g.commit_changes t) = refl
-open-statement _ _ (g.conflicts t) = refl
+open-statement _ _ (g.bare a question i) = refl
 open-statement _ _ (g.history table a cond i) = refl
 open-statement _ _ (g.when a query i) = refl
-open-statement _ _ g.serial = refl
-open-statement _ _ g.check = refl
 open-statement _ _ (g.diff a b c first second query i j k) = and_from _ _ (side-statements a first i) (side-statements b second j)
 open-statement _ _ (g.causes a b subject query i j) = refl
 open-statement _ _ (g.ask a b subject query i j) = refl

@@ -1,16 +1,8 @@
 -- What the parser builds for lists, queries and commands.
-use Rattle.std.proofs.Common.{◌≡◌, ℕ, true, List, [], ◌∷◌, ◌++◌, map, Option, Some, None, refl, sym, ap, ◌∙◌}
-use Rattle.std.specs.Prelude.{option_map}
-use Rattle.std.proofs.lemmas.List.{map-append}
+use Rattle.gp_grammar.proofs.Prelude.{◌≡◌, ℕ, true, List, [], ◌∷◌, ◌++◌, map, Option, Some, None, refl, sym, ap, ◌∙◌, option_map, map-append, Sign, Word, Lexemes, Bytes, Term, SetTerm, Item, Items, Block, Query, Command, is_statement, ScriptLine, capped, capped_set, capped_items, capped_block, capped_command, capped_line, IsTerm, IsList, comma, IsItem, IsItems, IsWhere, IsBlock, IsQuery, IsSetTerm, IsCommand, IsStatement, session_of, IsSessionCommand, Closed, Built}
 use Rattle.gp_lexer.specs.declared.lexeme.Symbol.TheVariants as s
-use Rattle.gp_lexer.specs.declared.lexeme.Lexeme.TheVariants.{Symbol as Sign, Word}
 use Rattle.gp_grammar.specs.Syntax as syntax
-use Rattle.gp_grammar.specs.Syntax.{Lexemes, Bytes, Term, SetTerm, Item, Items, Block, Query, Command, is_statement, ScriptLine}
-use Rattle.gp_grammar.specs.Capping.{capped, capped_set, capped_items, capped_block, capped_command, capped_line}
-use Rattle.gp_grammar.specs.Grammar.{IsTerm}
 use Rattle.gp_grammar.specs.CommandGrammar as g
-use Rattle.gp_grammar.specs.CommandGrammar.{IsList, comma, IsItem, IsItems, IsWhere, IsBlock, IsQuery, IsSetTerm, IsCommand, IsStatement, session_of, IsSessionCommand, Closed}
-use Rattle.gp_grammar.specs.Laws.{Built}
 use Rattle.gp_grammar.proofs.Building.{BuildsTerm}
 
 -- a list of built parts is built for a list

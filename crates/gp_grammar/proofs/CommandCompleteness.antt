@@ -1,22 +1,13 @@
 -- What the grammar of commands derives is parsed, where nothing after it goes on with it.
-use Rattle.std.proofs.Common.{◌≡◌, ℕ, suc, ◌<◌, true, false, List, [], ◌∷◌, ◌++◌, length, map, Option, Some, None, Ok, Err, refl, sym, ap, subst, arith, ◌∙◌, append_assoc}
-use Rattle.std.specs.Prelude.{codes, option_map}
-use Rattle.std.proofs.lemmas.List.{append-nil, map-append, map-id}
-use Rattle.gp_base.specs.declared.cell.Cell.{Cell}
-use Rattle.gp_base.specs.declared.table.Column.{Column}
-use Rattle.gp_lexer.specs.declared.lexeme.Symbol.{Symbol}
+use Rattle.gp_grammar.proofs.Prelude.{◌≡◌, ℕ, suc, ◌<◌, true, false, List, [], ◌∷◌, ◌++◌, length, map, Option, Some, None, Ok, Err, refl, sym, ap, subst, arith, ◌∙◌, append_assoc, codes, option_map, append-nil, map-append, Cell, Column, Symbol, Sign, Word, Number, Big, Text, Lexemes, Bytes, Term, SetTerm, Item, Items, Block, Query, Command, is_statement, ScriptLine, capped, capped_set, capped_items, capped_block, capped_command, capped_line, Phrase, Derives, IsTerm, IsList, comma, union_all, IsColumn, IsLiteral, IsTuple, IsItem, IsItems, IsWhere, IsBlock, IsQuery, IsSetTerm, IsCommand, IsStatement, session_of, IsSessionCommand, Closed, Outcome, Parser, ◌>>=◌, by_option, strip, identifier, term, ◌then◌, where_next, accept, strip_word, expect_word, many, push, in_brackets, named, closed}
+use Rattle.std.proofs.lemmas.List.{map-id}
 use Rattle.gp_lexer.specs.declared.lexeme.Symbol.TheVariants as s
-use Rattle.gp_lexer.specs.declared.lexeme.Lexeme.TheVariants.{Symbol as Sign, Word, Number, Big, Text}
 use Rattle.gp_grammar.specs.Syntax as syntax
-use Rattle.gp_grammar.specs.Syntax.{Lexemes, Bytes, Term, SetTerm, Item, Items, Block, Query, Command, is_statement, ScriptLine}
-use Rattle.gp_grammar.specs.Capping.{capped, capped_set, capped_items, capped_block, capped_command, capped_line}
 use Rattle.gp_grammar.specs.Grammar as t
-use Rattle.gp_grammar.specs.Grammar.{Phrase, Derives, IsTerm}
 use Rattle.gp_grammar.specs.CommandGrammar as g
-use Rattle.gp_grammar.specs.CommandGrammar.{IsList, comma, union_all, IsColumn, IsLiteral, IsTuple, IsItem, IsItems, IsWhere, IsBlock, IsQuery, IsSetTerm, IsCommand, IsStatement, session_of, IsSessionCommand, Closed}
-use Rattle.gp_grammar.specs.Parsing.{Outcome, Parser, ◌>>=◌, by_option, strip, expect, identifier, term}
+use Rattle.gp_grammar.specs.Parsing.{expect}
 use Rattle.gp_grammar.specs.CommandParsing as c
-use Rattle.gp_grammar.specs.CommandParsing.{◌then◌, where_next, accept, strip_word, expect_word, many, push, separated, in_brackets, named, closed}
+use Rattle.gp_grammar.specs.CommandParsing.{separated}
 use Rattle.gp_grammar.proofs.Completeness.{term-complete, first_binds}
 use Rattle.gp_grammar.proofs.Shrinking.{Below, Shrinks, Keeps, shrinks-keeps, keeps-accept, shrinks-bind, keeps-bind, keeps-next, shrinks-then, shrinks-identifier, shrinks-term, many-none, many-some, shrinks-separated, shrinks-in_brackets}
 
@@ -233,7 +224,7 @@ pub record EndsQuery (rest : Lexemes) : Type 0 where
   pub block : EndsBlock rest
   pub no_union : strip s.Union rest ≡ None
 
--- the same, after a list and before a condition
+-- what may follow a list that a condition may follow
 record EndsList (rest : Lexemes) : Type 0 where
   loose : first_binds rest < 1
   no_comma : strip s.Comma rest ≡ None

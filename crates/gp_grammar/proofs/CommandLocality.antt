@@ -1,205 +1,49 @@
 -- No lexeme after a fault matters to the parser of commands.
-use Rattle.std.proofs.Common.{◌≡◌, ℕ, zero, suc, pos, negsuc, true, false, [], ◌∷◌, Option, Some, None, Ok, Err, refl, subst}
-use Rattle.std.specs.Prelude.{codes, option_map, ◌^◌, ◌-◌}
-use Rattle.gp_base.specs.declared.cell.Cell.{Cell}
+use Rattle.gp_grammar.proofs.Prelude.{ap, Option, by_option, cond, Symbol, ◌≡◌, ℕ, zero, suc, pos, negsuc, true, false, [], ◌∷◌, Some, None, Ok, Err, refl, codes, ◌^◌, ◌-◌, Lexeme, Sign, Word, Number, Big, Text, Lexemes, Bytes, Command, session_of, Parser, ◌>>=◌, identifier, term, ◌then◌, fail, accept, expect_word, push, separated, in_brackets, named}
 use Rattle.gp_base.specs.declared.cell.Cell.TheVariants as cell
 use Rattle.gp_base.specs.declared.table.Kind.TheVariants as kind
-use Rattle.gp_lexer.specs.declared.lexeme.Symbol.{Symbol}
 use Rattle.gp_lexer.specs.declared.lexeme.Symbol.TheVariants as s
-use Rattle.gp_lexer.specs.declared.lexeme.Lexeme.{Lexeme}
-use Rattle.gp_lexer.specs.declared.lexeme.Lexeme.TheVariants.{Symbol as Sign, Word, Number, Big, Text}
 use Rattle.gp_grammar.specs.Syntax as syntax
-use Rattle.gp_grammar.specs.Syntax.{Lexemes, Bytes, Term, SetTerm, Item, Items, Block, Query, Command, ScriptLine}
-use Rattle.gp_grammar.specs.CommandGrammar.{session_of}
-use Rattle.gp_grammar.specs.Parsing.{Parser, ◌>>=◌, by_option, expect, identifier, term}
+use Rattle.gp_grammar.specs.Parsing.{expect}
 use Rattle.gp_grammar.specs.CommandParsing as c
-use Rattle.gp_grammar.specs.CommandParsing.{◌then◌, where_next, fail, accept, expect_word, many, push, separated, in_brackets, named, closed}
 use Rattle.gp_grammar.proofs.CommandCompleteness.{shrinks-literal, shrinks-tuple, shrinks-column, shrinks-item, shrinks-all, shrinks-set_term}
 use Rattle.gp_grammar.proofs.Shrinking.{shrinks-term}
-use Rattle.gp_grammar.proofs.Locality.{Local, local-ok, local-bind, local-err, local-expect, local-identifier, local-term}
-use Rattle.gp_grammar.proofs.LocalCombinators.{first_choice, local-next-all, local-word-all, local-first-all, local-many, local-separated, local-in_brackets, local-closed}
-use Rattle.std.proofs.lemmas.Option.{same_Some}
-
--- ---- parsers that look at the first lexeme
-
-abbrev negative_choice : Lexeme → Option (Parser Cell)
-negative_choice (Number zero) = Some (accept (cell.Int (pos 0)))
-negative_choice (Number (suc n)) = Some (accept (cell.Int (negsuc n)))
-negative_choice Big = Some (accept (cell.Int (negsuc (2 ^ 63 - 1))))
-negative_choice (Sign symbol) = None
-negative_choice (Word word) = None
-negative_choice (Text bytes) = None
-
-negative-first : (ts : Lexemes) → c.negative ts ≡ first_choice negative_choice fail ts
-negative-first [] = refl
-negative-first (Number zero ∷ ts) = refl
-negative-first (Number (suc n) ∷ ts) = refl
-negative-first (Big ∷ ts) = refl
-negative-first (Sign symbol ∷ ts) = refl
-negative-first (Word word ∷ ts) = refl
-negative-first (Text bytes ∷ ts) = refl
-
-abbrev literal_symbol : Symbol → Option (Parser Cell)
-literal_symbol s.Null = Some (accept cell.Null)
-literal_symbol s.Minus = Some c.negative
-literal_symbol _ = None
-
-abbrev literal_choice : Lexeme → Option (Parser Cell)
-literal_choice (Sign symbol) = literal_symbol symbol
-literal_choice (Number n) = Some (accept (cell.Int (pos n)))
-literal_choice (Text bytes) = Some (accept (cell.Text bytes))
-literal_choice (Word word) = None
-literal_choice Big = None
-
-literal_symbol-first : (symbol : Symbol) (ts : Lexemes) → c.literal_by symbol (Sign symbol ∷ ts) ts ≡ by_option (literal_symbol symbol) (Err (Sign symbol ∷ ts)) (λ p. p ts)
-literal_symbol-first s.Null ts = refl
-literal_symbol-first s.Minus ts = refl
-literal_symbol-first _ ts = refl
-
-literal-first : (ts : Lexemes) → c.literal ts ≡ first_choice literal_choice fail ts
-literal-first [] = refl
-literal-first (Sign symbol ∷ ts) = literal_symbol-first symbol ts
-literal-first (Number n ∷ ts) = refl
-literal-first (Text bytes ∷ ts) = refl
-literal-first (Word word ∷ ts) = refl
-literal-first (Big ∷ ts) = refl
-
-abbrev name_choice : Bytes → Lexeme → Option (Parser Item)
-name_choice table (Word name) = Some (accept (named table name))
-name_choice table (Sign symbol) = None
-name_choice table (Number n) = None
-name_choice table Big = None
-name_choice table (Text bytes) = None
-
-name-first : (table : Bytes) (ts : Lexemes) → c.optional_name table ts ≡ first_choice (name_choice table) (accept (named table table)) ts
-name-first table [] = refl
-name-first table (Word name ∷ ts) = refl
-name-first table (Sign symbol ∷ ts) = refl
-name-first table (Number n ∷ ts) = refl
-name-first table (Big ∷ ts) = refl
-name-first table (Text bytes ∷ ts) = refl
+use Rattle.gp_grammar.proofs.Locality.{Local, Step, goes, stays, local-first-all, local-ok, local-bind, local-err, local-expect, local-identifier, local-term}
+use Rattle.gp_grammar.proofs.LocalCombinators.{local-next-all, local-word-all, local-many, local-separated, local-in_brackets, local-closed}
 
 -- a SELECT, and a fault at the first lexeme where there is none
 abbrev selected : Parser Command
 selected ts = c.query ts >>= (λ r. Ok (syntax.select r.0, r.1))
 
-abbrev statement_symbol : Symbol → Option (Parser Command)
-statement_symbol s.Insert = Some c.insert
-statement_symbol s.Update = Some c.update
-statement_symbol s.Delete = Some c.delete
-statement_symbol _ = None
-
-abbrev statement_choice : Lexeme → Option (Parser Command)
-statement_choice (Sign symbol) = statement_symbol symbol
-statement_choice (Word word) = None
-statement_choice (Number n) = None
-statement_choice Big = None
-statement_choice (Text bytes) = None
-
-statement_symbol-first : (symbol : Symbol) (ts : Lexemes) → c.statement_by symbol (Sign symbol ∷ ts) ts ≡ by_option (statement_symbol symbol) (selected (Sign symbol ∷ ts)) (λ p. p ts)
-unfolding c.query c.block expect
-statement_symbol-first s.Insert ts = refl
-statement_symbol-first s.Update ts = refl
-statement_symbol-first s.Delete ts = refl
-statement_symbol-first _ ts = refl
-
-statement-first : (ts : Lexemes) → c.statement ts ≡ first_choice statement_choice selected ts
-unfolding c.query c.block expect
-statement-first [] = refl
-statement-first (Sign symbol ∷ ts) = statement_symbol-first symbol ts
-statement-first (Word word ∷ ts) = refl
-statement-first (Number n ∷ ts) = refl
-statement-first (Big ∷ ts) = refl
-statement-first (Text bytes ∷ ts) = refl
-
-abbrev command_symbol : Symbol → Option (Parser Command)
-command_symbol s.Create = Some c.create
-command_symbol s.Begin = Some c.begin
-command_symbol s.Commit = Some (accept syntax.Command.commit)
-command_symbol s.Rollback = Some (accept syntax.rollback)
-command_symbol s.Insert = Some c.insert
-command_symbol s.Update = Some c.update
-command_symbol s.Delete = Some c.delete
-command_symbol _ = None
-
-abbrev command_choice : Lexeme → Option (Parser Command)
-command_choice (Sign symbol) = command_symbol symbol
-command_choice (Word word) = None
-command_choice (Number n) = None
-command_choice Big = None
-command_choice (Text bytes) = None
-
-command_symbol-first : (symbol : Symbol) (ts : Lexemes) → c.command_by symbol (Sign symbol ∷ ts) ts ≡ by_option (command_symbol symbol) (selected (Sign symbol ∷ ts)) (λ p. p ts)
-unfolding c.query c.block expect
-command_symbol-first s.Create ts = refl
-command_symbol-first s.Begin ts = refl
-command_symbol-first s.Commit ts = refl
-command_symbol-first s.Rollback ts = refl
-command_symbol-first s.Insert ts = refl
-command_symbol-first s.Update ts = refl
-command_symbol-first s.Delete ts = refl
-command_symbol-first _ ts = refl
-
-command-first : (ts : Lexemes) → c.command ts ≡ first_choice command_choice selected ts
-unfolding c.query c.block expect
-command-first [] = refl
-command-first (Sign symbol ∷ ts) = command_symbol-first symbol ts
-command-first (Word word ∷ ts) = refl
-command-first (Number n ∷ ts) = refl
-command-first (Big ∷ ts) = refl
-command-first (Text bytes ∷ ts) = refl
-
-abbrev session_choice : Lexeme → Option (Parser ScriptLine)
-session_choice (Word name) = option_map c.in_session (session_of name)
-session_choice (Sign symbol) = None
-session_choice (Number n) = None
-session_choice Big = None
-session_choice (Text bytes) = None
-
-session-first : (ts : Lexemes) → c.session_command ts ≡ first_choice session_choice fail ts
-session-first [] = refl
-session-first (Word name ∷ ts) = go (session_of name)
-  where
-    go : (o : Option ℕ) → by_option o (Err (Word name ∷ ts)) (λ session. c.in_session session ts) ≡ by_option (option_map c.in_session o) (Err (Word name ∷ ts)) (λ p. p ts)
-    go None = refl
-    go (Some session) = refl
-session-first (Sign symbol ∷ ts) = refl
-session-first (Number n ∷ ts) = refl
-session-first (Big ∷ ts) = refl
-session-first (Text bytes ∷ ts) = refl
-
 module _ (t : Lexeme) (m m' : Lexemes) where
   abbrev IsLocal : {A : Type 0} → Parser A → Type 0
   IsLocal p = (n : ℕ) → Local t m m' n p
 
-  is_local-is : {A : Type 0} (n : ℕ) (p q : Parser A) → Local t m m' n p → Some p ≡ Some q → Local t m m' n q
-  is_local-is n p q w e = let P : Parser _ → Type 0 = λ x. Local t m m' n x in subst P (same_Some p q e) w
-
-  negative-chosen : (n : ℕ) (x : Lexeme) (p : Parser Cell) → negative_choice x ≡ Some p → Local t m m' n p
-  negative-chosen n (Number zero) p e = is_local-is n _ p (local-ok t m m' n (cell.Int (pos 0))) e
-  negative-chosen n (Number (suc k)) p e = is_local-is n _ p (local-ok t m m' n (cell.Int (negsuc k))) e
-  negative-chosen n Big p e = is_local-is n _ p (local-ok t m m' n (cell.Int (negsuc (2 ^ 63 - 1)))) e
-  negative-chosen n (Sign symbol) p e = cc
-  negative-chosen n (Word word) p e = cc
-  negative-chosen n (Text bytes) p e = cc
+  negative-step : (n : ℕ) (x : Lexeme) → Step t m m' n c.negative fail x
+  negative-step n (Number zero) = goes _ (λ ts. refl) (local-ok t m m' n (cell.Int (pos 0)))
+  negative-step n (Number (suc k)) = goes _ (λ ts. refl) (local-ok t m m' n (cell.Int (negsuc k)))
+  negative-step n Big = goes _ (λ ts. refl) (local-ok t m m' n (cell.Int (negsuc (2 ^ 63 - 1))))
+  negative-step n (Sign symbol) = stays (λ ts. refl)
+  negative-step n (Word word) = stays (λ ts. refl)
+  negative-step n (Text bytes) = stays (λ ts. refl)
 
   local-negative : IsLocal c.negative
-  local-negative = local-first-all t m m' c.negative negative_choice fail negative-first negative-chosen (λ n. local-err t m m' n)
+  local-negative = local-first-all t m m' c.negative fail refl negative-step (λ n. local-err t m m' n)
 
-  literal_symbol-chosen : (n : ℕ) (symbol : Symbol) (p : Parser Cell) → literal_symbol symbol ≡ Some p → Local t m m' n p
-  literal_symbol-chosen n s.Null p e = is_local-is n _ p (local-ok t m m' n cell.Null) e
-  literal_symbol-chosen n s.Minus p e = is_local-is n _ p (local-negative n) e
-  literal_symbol-chosen n _ p e = cc
-
-  literal-chosen : (n : ℕ) (x : Lexeme) (p : Parser Cell) → literal_choice x ≡ Some p → Local t m m' n p
-  literal-chosen n (Sign symbol) p e = literal_symbol-chosen n symbol p e
-  literal-chosen n (Number k) p e = is_local-is n _ p (local-ok t m m' n (cell.Int (pos k))) e
-  literal-chosen n (Text bytes) p e = is_local-is n _ p (local-ok t m m' n (cell.Text bytes)) e
-  literal-chosen n (Word word) p e = cc
-  literal-chosen n Big p e = cc
+  literal-step : (n : ℕ) (x : Lexeme) → Step t m m' n c.literal fail x
+  literal-step n (Sign symbol) = by symbol
+    where
+      by : (symbol : Symbol) → Step t m m' n c.literal fail (Sign symbol)
+      by s.Null = goes _ (λ ts. refl) (local-ok t m m' n cell.Null)
+      by s.Minus = goes c.negative (λ ts. refl) (local-negative n)
+      by _ = stays (λ ts. refl)
+  literal-step n (Number k) = goes _ (λ ts. refl) (local-ok t m m' n (cell.Int (pos k)))
+  literal-step n (Text bytes) = goes _ (λ ts. refl) (local-ok t m m' n (cell.Text bytes))
+  literal-step n (Word word) = stays (λ ts. refl)
+  literal-step n Big = stays (λ ts. refl)
 
   local-literal : IsLocal c.literal
-  local-literal = local-first-all t m m' c.literal literal_choice fail literal-first literal-chosen (λ n. local-err t m m' n)
+  local-literal = local-first-all t m m' c.literal fail refl literal-step (λ n. local-err t m m' n)
 
   local-tuple : IsLocal c.tuple
   unfolding c.tuple
@@ -211,15 +55,15 @@ module _ (t : Lexeme) (m m' : Lexemes) where
       (s.Text then accept (record { name = name; kind = kind.Text })) (λ n. local-ok t m m' n _)
       (λ n. local-expect t m m' n s.Text (accept (record { name = name; kind = kind.Text })) (local-ok t m m' n _)) n)
 
-  name-chosen : (table : Bytes) (n : ℕ) (x : Lexeme) (p : Parser Item) → name_choice table x ≡ Some p → Local t m m' n p
-  name-chosen table n (Word name) p e = is_local-is n _ p (local-ok t m m' n (named table name)) e
-  name-chosen table n (Sign symbol) p e = cc
-  name-chosen table n (Number k) p e = cc
-  name-chosen table n Big p e = cc
-  name-chosen table n (Text bytes) p e = cc
+  name-step : (table : Bytes) (n : ℕ) (x : Lexeme) → Step t m m' n (c.optional_name table) (accept (named table table)) x
+  name-step table n (Word name) = goes _ (λ ts. refl) (local-ok t m m' n (named table name))
+  name-step table n (Sign symbol) = stays (λ ts. refl)
+  name-step table n (Number k) = stays (λ ts. refl)
+  name-step table n Big = stays (λ ts. refl)
+  name-step table n (Text bytes) = stays (λ ts. refl)
 
   local-optional_name : (table : Bytes) → IsLocal (c.optional_name table)
-  local-optional_name table = local-first-all t m m' (c.optional_name table) (name_choice table) (accept (named table table)) (name-first table) (name-chosen table) (λ n. local-ok t m m' n (named table table))
+  local-optional_name table = local-first-all t m m' (c.optional_name table) (accept (named table table)) refl (name-step table) (λ n. local-ok t m m' n (named table table))
 
   local-item : IsLocal c.item
   unfolding c.item
@@ -276,24 +120,27 @@ module _ (t : Lexeme) (m m' : Lexemes) where
   local-delete n = local-expect t m m' n s.From _ (local-bind t m m' n identifier _ (local-identifier t m m' n) (λ table.
       local-bind t m m' n c.condition _ (local-condition n) (λ cond. local-ok t m m' n (syntax.delete table cond))))
 
-  statement_symbol-chosen : (n : ℕ) (symbol : Symbol) (p : Parser Command) → statement_symbol symbol ≡ Some p → Local t m m' n p
-  statement_symbol-chosen n s.Insert p e = is_local-is n _ p (local-insert n) e
-  statement_symbol-chosen n s.Update p e = is_local-is n _ p (local-update n) e
-  statement_symbol-chosen n s.Delete p e = is_local-is n _ p (local-delete n) e
-  statement_symbol-chosen n _ p e = cc
+  statement_symbol-step : (n : ℕ) (symbol : Symbol) → Step t m m' n c.statement selected (Sign symbol)
+  unfolding c.query c.block expect
+  statement_symbol-step n s.Insert = goes c.insert (λ ts. refl) (local-insert n)
+  statement_symbol-step n s.Update = goes c.update (λ ts. refl) (local-update n)
+  statement_symbol-step n s.Delete = goes c.delete (λ ts. refl) (local-delete n)
+  statement_symbol-step n _ = stays (λ ts. refl)
 
-  statement-chosen : (n : ℕ) (x : Lexeme) (p : Parser Command) → statement_choice x ≡ Some p → Local t m m' n p
-  statement-chosen n (Sign symbol) p e = statement_symbol-chosen n symbol p e
-  statement-chosen n (Word word) p e = cc
-  statement-chosen n (Number k) p e = cc
-  statement-chosen n Big p e = cc
-  statement-chosen n (Text bytes) p e = cc
+  statement-step : (n : ℕ) (x : Lexeme) → Step t m m' n c.statement selected x
+  unfolding c.query c.block expect
+  statement-step n (Sign symbol) = statement_symbol-step n symbol
+  statement-step n (Word word) = stays (λ ts. refl)
+  statement-step n (Number k) = stays (λ ts. refl)
+  statement-step n Big = stays (λ ts. refl)
+  statement-step n (Text bytes) = stays (λ ts. refl)
 
   local-selected : IsLocal selected
   local-selected n = local-bind t m m' n c.query _ (local-query n) (λ xs. local-ok t m m' n (syntax.select xs))
 
   pub local-statement : IsLocal c.statement
-  local-statement = local-first-all t m m' c.statement statement_choice selected statement-first statement-chosen local-selected
+  unfolding c.query c.block expect
+  local-statement = local-first-all t m m' c.statement selected refl statement-step local-selected
 
   local-begin : IsLocal c.begin
   unfolding c.begin
@@ -301,40 +148,43 @@ module _ (t : Lexeme) (m m' : Lexemes) where
       (local-word-all t m m' (codes "committed") (accept (syntax.begin true)) fail (λ n. local-ok t m m' n (syntax.begin true)) (λ n. local-err t m m' n))
       (λ n. local-ok t m m' n (syntax.begin false))
 
-  command_symbol-chosen : (n : ℕ) (symbol : Symbol) (p : Parser Command) → command_symbol symbol ≡ Some p → Local t m m' n p
-  command_symbol-chosen n s.Create p e = is_local-is n _ p (local-create n) e
-  command_symbol-chosen n s.Begin p e = is_local-is n _ p (local-begin n) e
-  command_symbol-chosen n s.Commit p e = is_local-is n _ p (local-ok t m m' n syntax.Command.commit) e
-  command_symbol-chosen n s.Rollback p e = is_local-is n _ p (local-ok t m m' n syntax.rollback) e
-  command_symbol-chosen n s.Insert p e = is_local-is n _ p (local-insert n) e
-  command_symbol-chosen n s.Update p e = is_local-is n _ p (local-update n) e
-  command_symbol-chosen n s.Delete p e = is_local-is n _ p (local-delete n) e
-  command_symbol-chosen n _ p e = cc
+  command_symbol-step : (n : ℕ) (symbol : Symbol) → Step t m m' n c.command selected (Sign symbol)
+  unfolding c.query c.block expect
+  command_symbol-step n s.Create = goes c.create (λ ts. refl) (local-create n)
+  command_symbol-step n s.Begin = goes c.begin (λ ts. refl) (local-begin n)
+  command_symbol-step n s.Commit = goes _ (λ ts. refl) (local-ok t m m' n syntax.Command.commit)
+  command_symbol-step n s.Rollback = goes _ (λ ts. refl) (local-ok t m m' n syntax.rollback)
+  command_symbol-step n s.Insert = goes c.insert (λ ts. refl) (local-insert n)
+  command_symbol-step n s.Update = goes c.update (λ ts. refl) (local-update n)
+  command_symbol-step n s.Delete = goes c.delete (λ ts. refl) (local-delete n)
+  command_symbol-step n _ = stays (λ ts. refl)
 
-  command-chosen : (n : ℕ) (x : Lexeme) (p : Parser Command) → command_choice x ≡ Some p → Local t m m' n p
-  command-chosen n (Sign symbol) p e = command_symbol-chosen n symbol p e
-  command-chosen n (Word word) p e = cc
-  command-chosen n (Number k) p e = cc
-  command-chosen n Big p e = cc
-  command-chosen n (Text bytes) p e = cc
+  command-step : (n : ℕ) (x : Lexeme) → Step t m m' n c.command selected x
+  unfolding c.query c.block expect
+  command-step n (Sign symbol) = command_symbol-step n symbol
+  command-step n (Word word) = stays (λ ts. refl)
+  command-step n (Number k) = stays (λ ts. refl)
+  command-step n Big = stays (λ ts. refl)
+  command-step n (Text bytes) = stays (λ ts. refl)
 
   pub local-command : IsLocal c.command
-  local-command = local-first-all t m m' c.command command_choice selected command-first command-chosen local-selected
+  unfolding c.query c.block expect
+  local-command = local-first-all t m m' c.command selected refl command-step local-selected
 
-  session-chosen : (n : ℕ) (x : Lexeme) (p : Parser ScriptLine) → session_choice x ≡ Some p → Local t m m' n p
-  session-chosen n (Word name) p e = go (session_of name) e
+  session-step : (n : ℕ) (x : Lexeme) → Step t m m' n c.session_command fail x
+  session-step n (Word name) = by (session_of name) refl
     where
-      go : (o : Option ℕ) → option_map c.in_session o ≡ Some p → Local t m m' n p
-      go None e = cc
-      go (Some session) e = is_local-is n _ p (local-expect t m m' n s.Colon _ (local-bind t m m' n c.command _ (local-command n)
-          (λ x. local-ok t m m' n (record { session = session; command = x })))) e
-  session-chosen n (Sign symbol) p e = cc
-  session-chosen n (Number k) p e = cc
-  session-chosen n Big p e = cc
-  session-chosen n (Text bytes) p e = cc
+      by : (o : Option ℕ) → session_of name ≡ o → Step t m m' n c.session_command fail (Word name)
+      by None e = stays (λ ts. ap (λ o. by_option o (Err (Word name ∷ ts)) (λ session. c.in_session session ts)) e)
+      by (Some session) e = goes (c.in_session session) (λ ts. ap (λ o. by_option o (Err (Word name ∷ ts)) (λ session. c.in_session session ts)) e)
+          (local-expect t m m' n s.Colon _ (local-bind t m m' n c.command _ (local-command n) (λ x. local-ok t m m' n (record { session = session; command = x }))))
+  session-step n (Sign symbol) = stays (λ ts. refl)
+  session-step n (Number k) = stays (λ ts. refl)
+  session-step n Big = stays (λ ts. refl)
+  session-step n (Text bytes) = stays (λ ts. refl)
 
   local-session_command : IsLocal c.session_command
-  local-session_command = local-first-all t m m' c.session_command session_choice fail session-first session-chosen (λ n. local-err t m m' n)
+  local-session_command = local-first-all t m m' c.session_command fail refl session-step (λ n. local-err t m m' n)
 
   pub local-script_line : IsLocal c.script_line
   local-script_line n = local-closed t m m' c.session_command n (local-session_command n)

@@ -1,19 +1,11 @@
 -- The parser of commands is sound, and what it leaves before a fault begins a command.
-use Rattle.std.proofs.Common.{◌≡◌, ℕ, zero, suc, true, false, List, [], ◌∷◌, ◌++◌, Option, Some, None, Ok, Err, refl}
-use Rattle.std.specs.Prelude.{codes}
-use Rattle.std.proofs.lemmas.List.{append-nil}
+use Rattle.gp_grammar.proofs.Prelude.{◌≡◌, ℕ, zero, suc, true, false, List, [], ◌∷◌, ◌++◌, Option, Some, None, Ok, Err, refl, codes, append-nil, Symbol, Sign, Word, Number, Big, Text, Lexemes, Bytes, Term, SetTerm, Item, Items, Block, Query, Command, ScriptLine, IsList, comma, union_all, IsColumn, IsLiteral, IsTuple, IsItem, IsCommand, session_of, Closed, ◌>>=◌, by_option, identifier, term, ◌then◌, accept, expect_word, separated, push, named}
 use Rattle.gp_base.specs.declared.cell.Cell.TheVariants as cell
 use Rattle.gp_base.specs.declared.table.Kind.TheVariants as kind
-use Rattle.gp_lexer.specs.declared.lexeme.Symbol.{Symbol}
 use Rattle.gp_lexer.specs.declared.lexeme.Symbol.TheVariants as s
-use Rattle.gp_lexer.specs.declared.lexeme.Lexeme.TheVariants.{Symbol as Sign, Word, Number, Big, Text}
 use Rattle.gp_grammar.specs.Syntax as syntax
-use Rattle.gp_grammar.specs.Syntax.{Lexemes, Bytes, Term, SetTerm, Item, Items, Block, Query, Command, ScriptLine}
 use Rattle.gp_grammar.specs.CommandGrammar as g
-use Rattle.gp_grammar.specs.CommandGrammar.{IsList, comma, union_all, IsColumn, IsLiteral, IsTuple, IsItem, IsCommand, session_of, Closed}
-use Rattle.gp_grammar.specs.Parsing.{◌>>=◌, by_option, identifier, term}
 use Rattle.gp_grammar.specs.CommandParsing as c
-use Rattle.gp_grammar.specs.CommandParsing.{◌then◌, accept, expect_word, separated, push, named}
 use Rattle.gp_grammar.proofs.Building.{BuildsTerm}
 use Rattle.gp_grammar.proofs.CommandBuilding as built
 use Rattle.gp_grammar.proofs.CommandBuilding.{BuildsWhere, BuildsItems, BuildsBlock, BuildsQuery, BuildsSetTerm, BuildsCommand, BuildsStatement, BuildsSession, as_is, statement_as_is}

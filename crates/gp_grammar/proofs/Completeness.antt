@@ -1,18 +1,10 @@
 -- The parser of terms is complete: it takes what the grammar derives, where the next lexeme does not go on with it.
-use Rattle.std.proofs.Common.{◌≡◌, ℕ, ◌<◌, ◌≤◌, List, [], ◌∷◌, ◌++◌, Some, None, Ok, Err, true, false, refl, sym, ap, arith, ◌∙◌, append_assoc}
-use Rattle.gp_lexer.specs.declared.lexeme.Symbol.{Symbol}
+use Rattle.gp_grammar.proofs.Prelude.{◌≡◌, ℕ, ◌<◌, ◌≤◌, List, [], ◌∷◌, ◌++◌, Some, None, Ok, Err, true, false, refl, sym, ap, arith, ◌∙◌, append_assoc, Symbol, Sign, Word, Number, Big, Text, Level, Op, Lexemes, Term, col, binary, neg, not, is_null, is_true, case, capped, operator_of, comparison_of, Outcome, Parser, ◌>>=◌, strip, expected, identifier, next_operator, by_option, with_rest, term, Phrase, Derives, IsTerm, operand}
 use Rattle.gp_lexer.specs.declared.lexeme.Symbol.TheVariants as s
-use Rattle.gp_lexer.specs.declared.lexeme.Lexeme.TheVariants.{Symbol as Sign, Word, Number, Big, Text}
-use Rattle.gp_grammar.specs.declared.level.Level.{Level}
 use Rattle.gp_grammar.specs.declared.level.Level.TheVariants as l
-use Rattle.gp_grammar.specs.declared.op.Op.{Op}
-use Rattle.gp_grammar.specs.Syntax.{Lexemes, Term, col}
-use Rattle.gp_grammar.specs.Capping.{binary, neg, not, is_null, is_true, case, capped}
 use Rattle.gp_grammar.specs.Parsing as r
-use Rattle.gp_grammar.specs.Operators.{operator_of, comparison_of}
-use Rattle.gp_grammar.specs.Parsing.{Outcome, Parser, ◌>>=◌, strip, expected, expect, identifier, next_operator, by_option, with_rest, term}
+use Rattle.gp_grammar.specs.Parsing.{expect}
 use Rattle.gp_grammar.proofs.Agreement.{term-unfolds, chain-none, chain-step}
-use Rattle.gp_grammar.specs.Grammar.{Phrase, Derives, IsTerm, operand}
 use Rattle.gp_grammar.specs.Grammar as g
 
 -- how tightly a symbol binds the lexemes before it

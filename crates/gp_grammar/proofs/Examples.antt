@@ -1,18 +1,13 @@
 -- Worked examples of the parser, by computation.
-use Rattle.std.proofs.Common.{◌≡◌, negsuc, true, false, [], ◌∷◌, ◌++◌, replicate, Some, None, Ok, Err, refl}
-use Rattle.std.specs.Prelude.{codes}
+use Rattle.gp_grammar.proofs.Prelude.{◌≡◌, negsuc, true, false, [], ◌∷◌, ◌++◌, Some, None, Ok, Err, refl, codes, Sign, Word, Number, Big, Lexemes, MAX_OPEN, is_too_deep, both, shape_of_count, passed_limit, whole, result_ok, command_text}
+use Rattle.std.proofs.Common.{replicate}
 use Rattle.gp_base.specs.declared.cell.Cell.TheVariants as cell
 use Rattle.gp_lexer.specs.declared.lexeme.Symbol.TheVariants as s
-use Rattle.gp_lexer.specs.declared.lexeme.Lexeme.TheVariants.{Symbol as Sign, Word, Number, Big}
 use Rattle.gp_lexer.specs.Lexemes.{symbol_text}
 use Rattle.gp_grammar.specs.declared.token_kind.TokenKind.TheVariants as token
 use Rattle.gp_grammar.specs.Syntax as y
-use Rattle.gp_grammar.specs.Syntax.{Lexemes}
-use Rattle.gp_grammar.specs.declared.limits.TheConstants.{MAX_OPEN}
-use Rattle.gp_grammar.specs.Depth.{is_too_deep}
-use Rattle.gp_grammar.specs.Limits.{columns, change_count, both, shape_of_count, passed_limit}
+use Rattle.gp_grammar.specs.Limits.{columns, change_count}
 use Rattle.gp_grammar.specs.Parsing as p
-use Rattle.gp_grammar.specs.Parsing.{whole}
 use Rattle.gp_grammar.specs.CommandParsing as c
 use Rattle.gp_grammar.specs.QuestionParsing as q
 use Rattle.gp_grammar.specs.LineReading as r
@@ -20,10 +15,8 @@ use Rattle.gp_grammar.specs.Reading as f
 use Rattle.gp_lexer.specs.Lexing as lex
 use Rattle.std.specs.Str.{is_utf8, chars}
 use Rattle.std.specs.Option.{option_map}
-use Rattle.std.specs.Result.{result_ok}
 use Rattle.gp_lexer.specs.Layout.{written}
 use Rattle.gp_grammar.specs.Capping as cap
-use Rattle.gp_grammar.specs.Canonical.{command_text}
 
 -- after `s1:`, a word that is no command
 no_command : whole c.script_line (Word (codes "s1") ∷ Sign s.Colon ∷ Word (codes "selct") ∷ Sign s.Star ∷ Sign s.From ∷ Word (codes "r") ∷ [])

@@ -1,3 +1,4 @@
+pub mod Prelude
 mod Examples
 pub mod Agreement
 pub mod Locality

@@ -1,22 +1,15 @@
 -- The layout of proper lexemes has no line feed.
-use Rattle.std.proofs.Common.{◌≡◌, ℕ, ◌<◌, ◌^◌, Bool, true, false, cond, eqb, List, [], ◌∷◌, ◌++◌, refl, arith}
-use Rattle.std.specs.Char.{is_ascii_control, digit_value}
-use Rattle.std.specs.Fmt.{decimal}
-use Rattle.std.specs.List.{flat_map, list_all, list_any}
-use Rattle.std.specs.Str.Parse.{AllDigits, digits_value}
-use Rattle.std.proofs.lemmas.Bool.Decides.{nat_tests}
+use Rattle.gp_grammar.proofs.Prelude.{◌≡◌, ℕ, ◌<◌, Bool, true, false, cond, eqb, List, [], ◌∷◌, ◌++◌, refl, arith, is_ascii_control, decimal, flat_map, list_all, digits_value, nat_tests, is_lower_letter, is_name_byte, is_name, quoted_byte, Symbol, Lexeme, Sign, Word, Number, Big, Text, spelled, IsProper, AreProper, has_space, Page, empty_page, spaced, put, laid_out, or_parts}
+use Rattle.std.proofs.Common.{◌^◌}
+use Rattle.std.specs.Char.{digit_value}
+use Rattle.std.specs.List.{list_any}
+use Rattle.std.specs.Str.Parse.{AllDigits}
 use Rattle.std.proofs.lemmas.Fmt.{digits_decimal}
 use Rattle.std.proofs.lemmas.Str.Parse.{IsNumeralModel}
-use Rattle.gp_base.specs.Names.{is_lower_letter, is_name_byte, is_name}
-use Rattle.gp_base.specs.Texts.{quoted_byte}
-use Rattle.gp_lexer.specs.declared.lexeme.Symbol.{Symbol}
 use Rattle.gp_lexer.specs.declared.lexeme.Symbol.TheVariants as s
-use Rattle.gp_lexer.specs.declared.lexeme.Lexeme.{Lexeme}
-use Rattle.gp_lexer.specs.declared.lexeme.Lexeme.TheVariants.{Symbol as Sign, Word, Number, Big, Text}
-use Rattle.gp_lexer.specs.Lexemes.{symbol_text, spelled}
-use Rattle.gp_lexer.specs.ProperLexemes.{IsProper, AreProper}
-use Rattle.gp_lexer.specs.Layout.{has_space, Page, empty_page, spaced, put, written, laid_out}
-use Rattle.std.proofs.lemmas.Bool.{and_parts, or_from, or_parts}
+use Rattle.gp_lexer.specs.Lexemes.{symbol_text}
+use Rattle.gp_lexer.specs.Layout.{written}
+use Rattle.std.proofs.lemmas.Bool.{and_parts, or_from}
 
 -- a byte list has a line feed
 abbrev pub has_line_feed : List ℕ → Bool

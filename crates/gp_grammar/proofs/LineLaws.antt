@@ -1,18 +1,12 @@
 -- A text and a line are read, and refused, exactly as the definitions say.
-use Rattle.std.proofs.Common.{◌≡◌, ℕ, ◌+◌, ◌<◌, ◌≤◌, Bool, true, false, cond, ltb, List, length, Option, Some, None, Result, Ok, Err, refl, sym, ap, subst, ◌∙◌, arith}
-use Rattle.std.specs.Str.{IsUtf8, is_utf8}
-use Rattle.std.proofs.lemmas.Bool.{ltb-false, ltb-true}
-use Rattle.std.proofs.lemmas.Str.{IsUtf8-from_is_utf8, is_utf8-from_IsUtf8}
-use Rattle.gp_lexer.specs.Lexing.{Lexed, lexed}
-use Rattle.gp_grammar.specs.declared.limits.TheConstants.{MAX_LINE_LENGTH, MAX_OPEN}
-use Rattle.gp_grammar.specs.Syntax.{Lexemes, Bytes}
-use Rattle.gp_grammar.specs.Depth.{is_too_deep}
-use Rattle.gp_grammar.specs.Limits.{Limit, depth, Shape, passed_limit}
-use Rattle.gp_grammar.specs.Parsing.{Outcome, Parser, whole}
+use Rattle.gp_grammar.proofs.Prelude.{◌≡◌, ℕ, ◌+◌, ◌<◌, ◌≤◌, Bool, true, false, cond, ltb, List, length, Option, Some, None, Result, Ok, Err, refl, sym, ap, subst, ◌∙◌, arith, IsUtf8, ltb-false, ltb-true, IsUtf8-from_is_utf8, Lexed, lexed, MAX_LINE_LENGTH, MAX_OPEN, Lexemes, Bytes, is_too_deep, Limit, Shape, passed_limit, Outcome, Parser, whole, Fault, ReadsText, ReadsLine, read_line, Built, CapsFairly}
+use Rattle.std.specs.Str.{is_utf8}
+use Rattle.std.proofs.lemmas.Str.{is_utf8-from_IsUtf8}
+use Rattle.gp_grammar.specs.Limits.{depth}
 use Rattle.gp_grammar.specs.LineReading as r
-use Rattle.gp_grammar.specs.LineReading.{Fault, too_long, not_utf8, lexical, syntax, over, HasLexemes, ReadsText, RefusesText, ReadsLine, RefusesLine}
-use Rattle.gp_grammar.specs.Reading.{within_shape, placed, read_lexemes, read_lexed, read_text, read_line}
-use Rattle.gp_grammar.specs.Laws.{Built, CapsFairly, IsUnambiguous, ReadsTextsExactly, RefusesTextsExactly, ReadsLinesExactly, RefusesLinesExactly}
+use Rattle.gp_grammar.specs.LineReading.{too_long, not_utf8, lexical, syntax, over, HasLexemes, RefusesText, RefusesLine}
+use Rattle.gp_grammar.specs.Reading.{within_shape, placed, read_lexemes, read_lexed, read_text}
+use Rattle.gp_grammar.specs.Laws.{IsUnambiguous, ReadsTextsExactly, RefusesTextsExactly, ReadsLinesExactly, RefusesLinesExactly}
 use Rattle.gp_grammar.proofs.ParserLaws.{Lawful}
 
 not-utf8 : (bytes : Bytes) → ¬ IsUtf8 bytes → is_utf8 bytes ≡ false

@@ -1,18 +1,10 @@
 -- The parser of terms is local: on two lines that are equal up to a lexeme t, it gives the same, or leaves t and the lexemes after it.
-use Rattle.std.proofs.Common.{◌≡◌, ℕ, zero, suc, ◌<◌, ◌≤◌, List, [], ◌∷◌, ◌++◌, length, Option, Some, None, Ok, Err, Bool, true, false, cond, IfSome, refl, sym, ap, subst, arith, ◌⊎◌, inl, inr}
-use Rattle.gp_lexer.specs.declared.lexeme.Symbol.{Symbol}
+use Rattle.gp_grammar.proofs.Prelude.{int, text, null, pos, with_rest, cond, is_symbol, Bool, true, false, ◌∙◌, Number, Big, Text, Symbol, Sign, Word, ◌≡◌, ℕ, zero, suc, ◌<◌, ◌≤◌, List, [], ◌∷◌, ◌++◌, length, Option, Some, None, Ok, Err, refl, sym, ap, subst, arith, ◌⊎◌, inl, inr, Lexeme, Level, Op, Lexemes, Term, col, binary, neg, not, is_null, is_true, case, operator_of, comparison_of, Outcome, Parser, ◌>>=◌, strip, expected, identifier, next_operator, by_option, term}
 use Rattle.gp_lexer.specs.declared.lexeme.Symbol.TheVariants as s
-use Rattle.gp_lexer.specs.declared.lexeme.Lexeme.{Lexeme}
-use Rattle.gp_lexer.specs.declared.lexeme.Lexeme.TheVariants.{Symbol as Sign, Word, Number, Big, Text}
-use Rattle.gp_grammar.specs.declared.level.Level.{Level}
 use Rattle.gp_grammar.specs.declared.level.Level.TheVariants as l
-use Rattle.gp_grammar.specs.declared.op.Op.{Op}
-use Rattle.gp_grammar.specs.Syntax.{Lexemes, Term, col}
-use Rattle.gp_grammar.specs.Capping.{binary, neg, not, is_null, is_true, case}
 use Rattle.gp_grammar.specs.Parsing as r
-use Rattle.gp_grammar.specs.Operators.{operator_of, comparison_of}
-use Rattle.gp_grammar.specs.Parsing.{Outcome, Parser, ◌>>=◌, is_symbol, strip, expected, expect, identifier, next_operator, by_option, with_rest, term}
-use Rattle.gp_grammar.proofs.Agreement.{term-unfolds, chain-none, chain-some, strip-less, next_operator-less}
+use Rattle.gp_grammar.specs.Parsing.{expect}
+use Rattle.gp_grammar.proofs.Agreement.{term-unfolds, chain-none, chain-some}
 
 module _ (t : Lexeme) (m m' : Lexemes) where
   -- two lines that are equal up to t
@@ -40,11 +32,11 @@ module _ (t : Lexeme) (m m' : Lexemes) where
     pub not_longer : (ts : Lexemes) → length ts < n → NotLonger ts (p ts)
     pub along : (ts us : Lexemes) → length ts < n → SameUpTo ts us → Same (p ts) (p us) ⊎ Past (p ts)
 
-  pub not_longer-less : {A : Type 0} (ts us : Lexemes) (o : Outcome (A × Lexemes)) → length ts ≤ length us → NotLonger ts o → NotLonger us o
+  not_longer-less : {A : Type 0} (ts us : Lexemes) (o : Outcome (A × Lexemes)) → length ts ≤ length us → NotLonger ts o → NotLonger us o
   not_longer-less ts us (Ok a) h f = omega arith
   not_longer-less ts us (Err a) h f = omega arith
 
-  pub not_longer-past : {A : Type 0} (ts : Lexemes) (o : Outcome (A × Lexemes)) → length ts ≤ length m → NotLonger ts o → Past o
+  not_longer-past : {A : Type 0} (ts : Lexemes) (o : Outcome (A × Lexemes)) → length ts ≤ length m → NotLonger ts o → Past o
   not_longer-past ts (Ok a) h f = omega arith
   not_longer-past ts (Err a) h f = omega arith
 
@@ -75,74 +67,20 @@ module _ (t : Lexeme) (m m' : Lexemes) where
     along = λ ts us lt e. bind-along n f k ts lt (p ts) (p us) (w.not_longer ts lt) (w.along ts us lt e);
   }
 
-  -- ---- the next symbol
-
-  abbrev BehindAlong : Option Lexemes → Option Lexemes → Type 0
-  BehindAlong None None = Unit {0}
-  BehindAlong None (Some b) = ⊥
-  BehindAlong (Some a) None = ⊥
-  BehindAlong (Some a) (Some b) = SameUpTo a b ⊎ (length a ≤ length m)
-
-  if-along : (b : Bool) (a c : Lexemes) → SameUpTo a c ⊎ (length a ≤ length m) → BehindAlong (cond b (Some a) None) (cond b (Some c) None)
-  if-along true a c h = h
-  if-along false a c h = tt
-
-  strip-prefix : (symbol : Symbol) (prefix : Lexemes) → BehindAlong (strip symbol (prefix ++ (t ∷ m))) (strip symbol (prefix ++ (t ∷ m')))
-  strip-prefix symbol [] = if-along (is_symbol symbol t) m m' (inr (omega arith))
-  strip-prefix symbol (x ∷ prefix) = if-along (is_symbol symbol x) (prefix ++ (t ∷ m)) (prefix ++ (t ∷ m')) (inl (record { prefix = prefix; first = refl; second = refl }))
-
-  strip-along : (symbol : Symbol) (ts us : Lexemes) → SameUpTo ts us → BehindAlong (strip symbol ts) (strip symbol us)
-  strip-along symbol ts us e =
-      let P : Lexemes → Type 0 = λ x. BehindAlong (strip symbol x) (strip symbol us) in
-      let Q : Lexemes → Type 0 = λ x. BehindAlong (strip symbol (e.prefix ++ (t ∷ m))) (strip symbol x) in
-      subst P (sym e.first) (subst Q (sym e.second) (strip-prefix symbol e.prefix))
-
-  -- one parser after the symbol, where it is the first lexeme, and another one where it is not
-  chosen-not_longer : {A : Type 0} (n : ℕ) (h : Lexemes → Option Lexemes → Outcome (A × Lexemes)) (some : Parser A) → Local n (λ ts. h ts None) → Local n some
-      → ((ts rest : Lexemes) → h ts (Some rest) ≡ some rest) → (ts : Lexemes) → length ts < suc n → (o : Option Lexemes) → IfSome o (λ rest. length rest < length ts) → (o ≡ None → length ts < n) → NotLonger ts (h ts o)
-  chosen-not_longer n h some w k is ts lt None less small = w.not_longer ts (small refl)
-  chosen-not_longer n h some w k is ts lt (Some rest) less small = let F : Outcome _ → Type 0 = λ x. NotLonger ts x in subst F (sym (is ts rest)) (not_longer-less rest ts (some rest) (omega arith) (k.not_longer rest (omega arith)))
-
-  chosen-along : {A : Type 0} (n : ℕ) (h : Lexemes → Option Lexemes → Outcome (A × Lexemes)) (some : Parser A) → Local n (λ ts. h ts None) → Local n some
-      → ((ts rest : Lexemes) → h ts (Some rest) ≡ some rest) → (ts us : Lexemes) → length ts < n → SameUpTo ts us → (o q : Option Lexemes) → IfSome o (λ rest. length rest < length ts)
-      → BehindAlong o q → Same (h ts o) (h us q) ⊎ Past (h ts o)
-  chosen-along n h some w k is ts us lt e None None less b = w.along ts us lt e
-  chosen-along n h some w k is ts us lt e None (Some q) less b = absurd b
-  chosen-along n h some w k is ts us lt e (Some o) None less b = absurd b
-  chosen-along n h some w k is ts us lt e (Some o) (Some q) less (inl b) =
-      let P : Outcome _ → Type 0 = λ x. Same x (h us (Some q)) ⊎ Past x in let Q : Outcome _ → Type 0 = λ x. Same (some o) x ⊎ Past (some o) in
-      subst P (sym (is ts o)) (subst Q (sym (is us q)) (k.along o q (omega arith) b))
-  chosen-along n h some w k is ts us lt e (Some o) (Some q) less (inr b) =
-      let P : Outcome _ → Type 0 = λ x. Same x (h us (Some q)) ⊎ Past x in
-      subst P (sym (is ts o)) (inr (not_longer-past o (some o) b (k.not_longer o (omega arith))))
-
-  local-strip : {A : Type 0} (n : ℕ) (symbol : Symbol) (h : Lexemes → Option Lexemes → Outcome (A × Lexemes)) (some : Parser A) → Local n (λ ts. h ts None) → Local n some
-      → ((ts rest : Lexemes) → h ts (Some rest) ≡ some rest) → Local n (λ ts. h ts (strip symbol ts))
-  local-strip n symbol h some w k is = record {
-    not_longer = λ ts lt. chosen-not_longer n h some w k is ts (omega arith) (strip symbol ts) (strip-less symbol ts) (λ _. lt);
-    along = λ ts us lt e. chosen-along n h some w k is ts us lt e (strip symbol ts) (strip symbol us) (strip-less symbol ts) (strip-along symbol ts us e);
-  }
-
   pub local-err : {A : Type 0} (n : ℕ) → Local {A = A} n (λ ts. Err ts)
   local-err n = record { not_longer = λ ts lt. omega arith; along = λ ts us lt e. inl e }
 
-  pub local-expect : {B : Type 0} (n : ℕ) (symbol : Symbol) (f : Parser B) → Local n f → Local n (λ ts. expect symbol ts >>= f)
-  unfolding expect
-  local-expect n symbol f k = local-strip n symbol (λ ts o. expected ts o >>= f) f (local-err n) k (λ ts rest. refl)
-
-  -- ---- names and operators
-
-  pub here : (x : Lexeme) → x ≡ t → SameUpTo (x ∷ m) (x ∷ m')
+  here : (x : Lexeme) → x ≡ t → SameUpTo (x ∷ m) (x ∷ m')
   here x e = record { prefix = []; first = ap (λ z. z ∷ m) e; second = ap (λ z. z ∷ m') e }
 
-  pub there : (x : Lexeme) (prefix : Lexemes) → SameUpTo (x ∷ (prefix ++ (t ∷ m))) (x ∷ (prefix ++ (t ∷ m')))
+  there : (x : Lexeme) (prefix : Lexemes) → SameUpTo (x ∷ (prefix ++ (t ∷ m))) (x ∷ (prefix ++ (t ∷ m')))
   there x prefix = record { prefix = x ∷ prefix; first = refl; second = refl }
 
-  pub after : (prefix : Lexemes) → SameUpTo (prefix ++ (t ∷ m)) (prefix ++ (t ∷ m'))
+  after : (prefix : Lexemes) → SameUpTo (prefix ++ (t ∷ m)) (prefix ++ (t ∷ m'))
   after prefix = record { prefix = prefix; first = refl; second = refl }
 
   -- a parser that is given one lexeme or more
-  pub along-by : {A : Type 0} (p : Parser A) → (n : ℕ) → ((x : Lexeme) → x ≡ t → length m < n → Same (p (x ∷ m)) (p (x ∷ m')) ⊎ Past (p (x ∷ m)))
+  along-by : {A : Type 0} (p : Parser A) → (n : ℕ) → ((x : Lexeme) → x ≡ t → length m < n → Same (p (x ∷ m)) (p (x ∷ m')) ⊎ Past (p (x ∷ m)))
       → ((x : Lexeme) (prefix : Lexemes) → length (prefix ++ (t ∷ m)) < n → Same (p (x ∷ (prefix ++ (t ∷ m)))) (p (x ∷ (prefix ++ (t ∷ m')))) ⊎ Past (p (x ∷ (prefix ++ (t ∷ m)))))
       → (ts us : Lexemes) → length ts < suc n → SameUpTo ts us → Same (p ts) (p us) ⊎ Past (p ts)
   along-by p n one more ts us lt e =
@@ -154,86 +92,93 @@ module _ (t : Lexeme) (m m' : Lexemes) where
       go [] lt = one t refl (omega arith)
       go (x ∷ prefix) lt = more x prefix (omega arith)
 
-  identifier-one : (x : Lexeme) → x ≡ t → Same (identifier (x ∷ m)) (identifier (x ∷ m')) ⊎ Past (identifier (x ∷ m))
-  identifier-one (Sign symbol) e = inl (here _ e)
-  identifier-one (Word word) e = inr (omega arith)
-  identifier-one (Number n) e = inl (here _ e)
-  identifier-one Big e = inl (here _ e)
-  identifier-one (Text bytes) e = inl (here _ e)
+  -- ---- the first lexeme
 
-  identifier-more : (x : Lexeme) (prefix : Lexemes) → Same (identifier (x ∷ (prefix ++ (t ∷ m)))) (identifier (x ∷ (prefix ++ (t ∷ m')))) ⊎ Past (identifier (x ∷ (prefix ++ (t ∷ m))))
-  identifier-more (Sign symbol) prefix = inl (there _ prefix)
-  identifier-more (Word word) prefix = inl (refl, after prefix)
-  identifier-more (Number n) prefix = inl (there _ prefix)
-  identifier-more Big prefix = inl (there _ prefix)
-  identifier-more (Text bytes) prefix = inl (there _ prefix)
+  -- what a parser does with its first lexeme: it goes on behind it, or does there what another one does
+  pub data Step {A : Type 0} (n : ℕ) (p other : Parser A) (x : Lexeme) : Type 0 where
+    goes : (q : Parser A) → ((ts : Lexemes) → p (x ∷ ts) ≡ q ts) → Local n q → Step n p other x
+    stays : ((ts : Lexemes) → p (x ∷ ts) ≡ other (x ∷ ts)) → Step n p other x
 
-  identifier-not_longer : (ts : Lexemes) → NotLonger ts (identifier ts)
-  identifier-not_longer [] = omega arith
-  identifier-not_longer (Sign symbol ∷ ts) = omega arith
-  identifier-not_longer (Word word ∷ ts) = omega arith
-  identifier-not_longer (Number n ∷ ts) = omega arith
-  identifier-not_longer (Big ∷ ts) = omega arith
-  identifier-not_longer (Text bytes ∷ ts) = omega arith
+  module _ {A : Type 0} (n : ℕ) (p other : Parser A) (empty : p [] ≡ other []) (steps : (x : Lexeme) → Step n p other x) (w : Local (suc n) other) where
+    first-not_longer : (ts : Lexemes) → length ts < suc n → NotLonger ts (p ts)
+    first-not_longer [] lt = rw empty (w.not_longer [] lt)
+    first-not_longer (x ∷ ts) lt = go (steps x)
+      where
+        go : Step n p other x → NotLonger (x ∷ ts) (p (x ∷ ts))
+        go (goes q e k) = rw (e ts) (not_longer-less ts (x ∷ ts) (q ts) (omega arith) (k.not_longer ts (omega arith)))
+        go (stays e) = rw (e ts) (w.not_longer (x ∷ ts) lt)
+
+    first-one : (x : Lexeme) → x ≡ t → length m < n → Same (p (x ∷ m)) (p (x ∷ m')) ⊎ Past (p (x ∷ m))
+    first-one x same lt = go (steps x)
+      where
+        go : Step n p other x → Same (p (x ∷ m)) (p (x ∷ m')) ⊎ Past (p (x ∷ m))
+        go (goes q e k) = rw (e m, e m') (inr (not_longer-past m (q m) (omega arith) (k.not_longer m lt)))
+        go (stays e) = rw (e m, e m') (w.along (x ∷ m) (x ∷ m') (omega arith) (here x same))
+
+    first-more : (x : Lexeme) (prefix : Lexemes) → length (prefix ++ (t ∷ m)) < n
+        → Same (p (x ∷ (prefix ++ (t ∷ m)))) (p (x ∷ (prefix ++ (t ∷ m')))) ⊎ Past (p (x ∷ (prefix ++ (t ∷ m))))
+    first-more x prefix lt = go (steps x)
+      where
+        go : Step n p other x → Same (p (x ∷ (prefix ++ (t ∷ m)))) (p (x ∷ (prefix ++ (t ∷ m')))) ⊎ Past (p (x ∷ (prefix ++ (t ∷ m))))
+        go (goes q e k) = rw (e (prefix ++ (t ∷ m)), e (prefix ++ (t ∷ m'))) (k.along (prefix ++ (t ∷ m)) (prefix ++ (t ∷ m')) lt (after prefix))
+        go (stays e) = rw (e (prefix ++ (t ∷ m)), e (prefix ++ (t ∷ m')))
+            (w.along (x ∷ (prefix ++ (t ∷ m))) (x ∷ (prefix ++ (t ∷ m'))) (omega arith) (there x prefix))
+
+    local-first : Local (suc n) p
+    local-first = record { not_longer = first-not_longer; along = along-by p n first-one first-more }
+
+  -- where there is nothing below the bound
+  pub local-zero : {A : Type 0} (p : Parser A) → Local 0 p
+  local-zero p = record { not_longer = λ ts lt. absurd (omega arith); along = λ ts us lt e. absurd (omega arith) }
+
+  pub local-first-all : {A : Type 0} (p other : Parser A) → p [] ≡ other [] → ((n : ℕ) (x : Lexeme) → Step n p other x) → ((n : ℕ) → Local n other) → (n : ℕ) → Local n p
+  local-first-all p other empty steps w zero = local-zero p
+  local-first-all p other empty steps w (suc n) = local-first n p other empty (steps n) (w (suc n))
+
+  -- one parser after the symbol, where it is the first lexeme, and another one where it is not
+  pub local-strip-less : {A : Type 0} (n : ℕ) (symbol : Symbol) (h : Lexemes → Option Lexemes → Outcome (A × Lexemes)) (some : Parser A) → Local (suc n) (λ ts. h ts None) → Local n some
+      → ((ts rest : Lexemes) → h ts (Some rest) ≡ some rest) → Local (suc n) (λ ts. h ts (strip symbol ts))
+  local-strip-less {A = A} n symbol h some w k is = local-first n (λ ts. h ts (strip symbol ts)) (λ ts. h ts None) refl (λ x. by x (is_symbol symbol x) refl) w
+    where
+      by : (x : Lexeme) (b : Bool) → is_symbol symbol x ≡ b → Step n (λ ts. h ts (strip symbol ts)) (λ ts. h ts None) x
+      by x true e = goes some (λ ts. ap (λ b. h (x ∷ ts) (cond b (Some ts) None)) e ∙ is (x ∷ ts) ts) k
+      by x false e = stays (λ ts. ap (λ b. h (x ∷ ts) (cond b (Some ts) None)) e)
+
+  local-strip : {A : Type 0} (n : ℕ) (symbol : Symbol) (h : Lexemes → Option Lexemes → Outcome (A × Lexemes)) (some : Parser A) → Local n (λ ts. h ts None) → Local n some
+      → ((ts rest : Lexemes) → h ts (Some rest) ≡ some rest) → Local n (λ ts. h ts (strip symbol ts))
+  local-strip zero symbol h some w k is = local-zero (λ ts. h ts (strip symbol ts))
+  local-strip (suc n) symbol h some w k is = local-strip-less n symbol h some w (local-weaken (suc n) n some (omega arith) k) is
+
+  pub local-expect : {B : Type 0} (n : ℕ) (symbol : Symbol) (f : Parser B) → Local n f → Local n (λ ts. expect symbol ts >>= f)
+  unfolding expect
+  local-expect n symbol f k = local-strip n symbol (λ ts o. expected ts o >>= f) f (local-err n) k (λ ts rest. refl)
+
+  -- ---- names and operators
+
+  identifier-step : (n : ℕ) (x : Lexeme) → Step n identifier (λ ts. Err ts) x
+  identifier-step n (Word word) = goes _ (λ ts. refl) (local-ok n word)
+  identifier-step n (Sign symbol) = stays (λ ts. refl)
+  identifier-step n (Number k) = stays (λ ts. refl)
+  identifier-step n Big = stays (λ ts. refl)
+  identifier-step n (Text bytes) = stays (λ ts. refl)
 
   pub local-identifier : (n : ℕ) → Local n identifier
-  local-identifier n = record { not_longer = λ ts lt. identifier-not_longer ts; along = λ ts us lt e. along-by identifier n (λ x e' lt'. identifier-one x e') (λ x prefix lt'. identifier-more x prefix) ts us (omega arith) e }
-
-  abbrev OperatorAlong : Option (Op × Lexemes) → Option (Op × Lexemes) → Type 0
-  OperatorAlong None None = Unit {0}
-  OperatorAlong None (Some b) = ⊥
-  OperatorAlong (Some a) None = ⊥
-  OperatorAlong (Some a) (Some b) = (a.0 ≡ b.0) × (SameUpTo a.1 b.1 ⊎ (length a.1 ≤ length m))
-
-  with_rest-along : (o : Option Op) (a b : Lexemes) → SameUpTo a b ⊎ (length a ≤ length m) → OperatorAlong (with_rest a o) (with_rest b o)
-  with_rest-along None a b h = tt
-  with_rest-along (Some o) a b h = (refl, h)
-
-  next_operator-head : (ops : Symbol → Option Op) (x : Lexeme) (a b : Lexemes) → SameUpTo a b ⊎ (length a ≤ length m) → OperatorAlong (next_operator ops (x ∷ a)) (next_operator ops (x ∷ b))
-  next_operator-head ops (Sign symbol) a b h = with_rest-along (ops symbol) a b h
-  next_operator-head ops (Word word) a b h = tt
-  next_operator-head ops (Number n) a b h = tt
-  next_operator-head ops Big a b h = tt
-  next_operator-head ops (Text bytes) a b h = tt
-
-  next_operator-prefix : (ops : Symbol → Option Op) (prefix : Lexemes) → OperatorAlong (next_operator ops (prefix ++ (t ∷ m))) (next_operator ops (prefix ++ (t ∷ m')))
-  next_operator-prefix ops [] = next_operator-head ops t m m' (inr (omega arith))
-  next_operator-prefix ops (x ∷ prefix) = next_operator-head ops x (prefix ++ (t ∷ m)) (prefix ++ (t ∷ m')) (inl (after prefix))
-
-  next_operator-along : (ops : Symbol → Option Op) (ts us : Lexemes) → SameUpTo ts us → OperatorAlong (next_operator ops ts) (next_operator ops us)
-  next_operator-along ops ts us e =
-      let P : Lexemes → Type 0 = λ x. OperatorAlong (next_operator ops x) (next_operator ops us) in
-      let Q : Lexemes → Type 0 = λ x. OperatorAlong (next_operator ops (e.prefix ++ (t ∷ m))) (next_operator ops x) in
-      subst P (sym e.first) (subst Q (sym e.second) (next_operator-prefix ops e.prefix))
-
-  joined-not_longer : {A : Type 0} (n : ℕ) (h : Lexemes → Option (Op × Lexemes) → Outcome (A × Lexemes)) (some : Op → Parser A) → Local (suc n) (λ ts. h ts None) → ((o : Op) → Local n (some o))
-      → ((ts : Lexemes) (o : Op × Lexemes) → h ts (Some o) ≡ some o.0 o.1) → (ts : Lexemes) → length ts < suc n → (o : Option (Op × Lexemes)) → IfSome o (λ o. length o.1 < length ts) → NotLonger ts (h ts o)
-  joined-not_longer n h some w k is ts lt None less = w.not_longer ts lt
-  joined-not_longer n h some w k is ts lt (Some o) less =
-      let F : Outcome _ → Type 0 = λ x. NotLonger ts x in subst F (sym (is ts o)) (not_longer-less o.1 ts (some o.0 o.1) (omega arith) ((k o.0).not_longer o.1 (omega arith)))
-
-  joined-along : {A : Type 0} (n : ℕ) (h : Lexemes → Option (Op × Lexemes) → Outcome (A × Lexemes)) (some : Op → Parser A) → Local (suc n) (λ ts. h ts None) → ((o : Op) → Local n (some o))
-      → ((ts : Lexemes) (o : Op × Lexemes) → h ts (Some o) ≡ some o.0 o.1) → (ts us : Lexemes) → length ts < suc n → SameUpTo ts us → (o q : Option (Op × Lexemes)) → IfSome o (λ o. length o.1 < length ts)
-      → OperatorAlong o q → Same (h ts o) (h us q) ⊎ Past (h ts o)
-  joined-along n h some w k is ts us lt e None None less b = w.along ts us lt e
-  joined-along n h some w k is ts us lt e None (Some q) less b = absurd b
-  joined-along n h some w k is ts us lt e (Some o) None less b = absurd b
-  joined-along n h some w k is ts us lt e (Some o) (Some q) less b =
-      let P : Outcome _ → Type 0 = λ x. Same x (h us (Some q)) ⊎ Past x in
-      let Q : Outcome _ → Type 0 = λ x. Same (some o.0 o.1) x ⊎ Past (some o.0 o.1) in
-      let R : Op → Type 0 = λ x. Same (some o.0 o.1) (some x q.1) ⊎ Past (some o.0 o.1) in
-      subst P (sym (is ts o)) (subst Q (sym (is us q)) (subst R b.0 (by b.1)))
-    where
-      by : SameUpTo o.1 q.1 ⊎ (length o.1 ≤ length m) → Same (some o.0 o.1) (some o.0 q.1) ⊎ Past (some o.0 o.1)
-      by (inl s) = (k o.0).along o.1 q.1 (omega arith) s
-      by (inr p) = inr (not_longer-past o.1 (some o.0 o.1) p ((k o.0).not_longer o.1 (omega arith)))
+  local-identifier = local-first-all identifier (λ ts. Err ts) refl identifier-step (λ n. local-err n)
 
   local-next_operator : {A : Type 0} (n : ℕ) (ops : Symbol → Option Op) (h : Lexemes → Option (Op × Lexemes) → Outcome (A × Lexemes)) (some : Op → Parser A) → Local (suc n) (λ ts. h ts None)
       → ((o : Op) → Local n (some o)) → ((ts : Lexemes) (o : Op × Lexemes) → h ts (Some o) ≡ some o.0 o.1) → Local (suc n) (λ ts. h ts (next_operator ops ts))
-  local-next_operator n ops h some w k is = record {
-    not_longer = λ ts lt. joined-not_longer n h some w k is ts lt (next_operator ops ts) (next_operator-less ops ts);
-    along = λ ts us lt e. joined-along n h some w k is ts us lt e (next_operator ops ts) (next_operator ops us) (next_operator-less ops ts) (next_operator-along ops ts us e);
-  }
+  local-next_operator {A = A} n ops h some w k is = local-first n (λ ts. h ts (next_operator ops ts)) (λ ts. h ts None) refl step w
+    where
+      by : (symbol : Symbol) (o : Option Op) → ops symbol ≡ o → Step n (λ ts. h ts (next_operator ops ts)) (λ ts. h ts None) (Sign symbol)
+      by symbol None e = stays (λ ts. ap (λ o. h (Sign symbol ∷ ts) (with_rest ts o)) e)
+      by symbol (Some o) e = goes (some o) (λ ts. ap (λ o. h (Sign symbol ∷ ts) (with_rest ts o)) e ∙ is (Sign symbol ∷ ts) (o, ts)) (k o)
+
+      step : (x : Lexeme) → Step n (λ ts. h ts (next_operator ops ts)) (λ ts. h ts None) x
+      step (Sign symbol) = by symbol (ops symbol) refl
+      step (Word word) = stays (λ ts. refl)
+      step (Number k) = stays (λ ts. refl)
+      step Big = stays (λ ts. refl)
+      step (Text bytes) = stays (λ ts. refl)
 
   pub local-same : {A : Type 0} (n : ℕ) (p q : Parser A) → ((ts : Lexemes) → q ts ≡ p ts) → Local n p → Local n q
   local-same n p q is w = record {
@@ -253,7 +198,7 @@ module _ (t : Lexeme) (m m' : Lexemes) where
       go (Some o) e = chain-some at left ts o e
 
   local-chain : (at : Level) (n : ℕ) → Local n (r.operand term at) → (k : ℕ) → k ≤ n → (left : Term) → Local k (r.chain (operator_of at) (r.operand term at) left)
-  local-chain at n w zero h left = record { not_longer = λ ts lt. absurd (omega arith); along = λ ts us lt e. absurd (omega arith) }
+  local-chain at n w zero h left = local-zero (r.chain (operator_of at) (r.operand term at) left)
   local-chain at n w (suc k) h left =
       let p : Parser Term = r.operand term at in
       local-same (suc k) (λ ts. chain_of at p left ts (next_operator (operator_of at) ts)) (r.chain (operator_of at) p left) (chain-is at left)
@@ -291,50 +236,21 @@ module _ (t : Lexeme) (m m' : Lexemes) where
     local-choice = local-expect n s.When _ (local-bind n term _ w (λ x. local-expect n s.Then _ (local-bind n term _ w (λ y. local-expect n s.Else _ (local-bind n term _ w (λ z.
         local-expect n s.End (λ rest. Ok (case x y z, rest)) (local-ok n (case x y z))))))))
 
-    primary_by-one : (symbol : Symbol) → Sign symbol ≡ t → length m < n → Same (r.primary term (Sign symbol ∷ m)) (r.primary term (Sign symbol ∷ m')) ⊎ Past (r.primary term (Sign symbol ∷ m))
-    primary_by-one s.Null e lt = inr (omega arith)
-    primary_by-one s.Open e lt = inr (not_longer-past m (r.brackets term m) (omega arith) (local-brackets.not_longer m lt))
-    primary_by-one s.Case e lt = inr (not_longer-past m (r.choice term m) (omega arith) (local-choice.not_longer m lt))
-    primary_by-one _ e lt = inl (here _ e)
-
-    primary-one : (x : Lexeme) → x ≡ t → length m < n → Same (r.primary term (x ∷ m)) (r.primary term (x ∷ m')) ⊎ Past (r.primary term (x ∷ m))
-    primary-one (Sign symbol) e lt = primary_by-one symbol e lt
-    primary-one (Word word) e lt = inr (not_longer-past m (r.column word m) (omega arith) ((local-col n word).not_longer m lt))
-    primary-one (Number k) e lt = inr (omega arith)
-    primary-one Big e lt = inl (here _ e)
-    primary-one (Text bytes) e lt = inr (omega arith)
-
-    primary_by-more : (symbol : Symbol) (prefix : Lexemes) → length (prefix ++ (t ∷ m)) < n
-        → Same (r.primary term (Sign symbol ∷ (prefix ++ (t ∷ m)))) (r.primary term (Sign symbol ∷ (prefix ++ (t ∷ m')))) ⊎ Past (r.primary term (Sign symbol ∷ (prefix ++ (t ∷ m))))
-    primary_by-more s.Null prefix lt = inl (refl, after prefix)
-    primary_by-more s.Open prefix lt = local-brackets.along _ _ lt (after prefix)
-    primary_by-more s.Case prefix lt = local-choice.along _ _ lt (after prefix)
-    primary_by-more _ prefix lt = inl (there _ prefix)
-
-    primary-more : (x : Lexeme) (prefix : Lexemes) → length (prefix ++ (t ∷ m)) < n
-        → Same (r.primary term (x ∷ (prefix ++ (t ∷ m)))) (r.primary term (x ∷ (prefix ++ (t ∷ m')))) ⊎ Past (r.primary term (x ∷ (prefix ++ (t ∷ m))))
-    primary-more (Sign symbol) prefix lt = primary_by-more symbol prefix lt
-    primary-more (Word word) prefix lt = (local-col n word).along _ _ lt (after prefix)
-    primary-more (Number k) prefix lt = inl (refl, after prefix)
-    primary-more Big prefix lt = inl (there _ prefix)
-    primary-more (Text bytes) prefix lt = inl (refl, after prefix)
-
-    primary_by-not_longer : (symbol : Symbol) (ts : Lexemes) → length ts < n → NotLonger (Sign symbol ∷ ts) (r.primary term (Sign symbol ∷ ts))
-    primary_by-not_longer s.Null ts lt = omega arith
-    primary_by-not_longer s.Open ts lt = not_longer-less ts (Sign s.Open ∷ ts) (r.brackets term ts) (omega arith) (local-brackets.not_longer ts lt)
-    primary_by-not_longer s.Case ts lt = not_longer-less ts (Sign s.Case ∷ ts) (r.choice term ts) (omega arith) (local-choice.not_longer ts lt)
-    primary_by-not_longer _ ts lt = omega arith
-
-    primary-not_longer : (ts : Lexemes) → length ts < suc n → NotLonger ts (r.primary term ts)
-    primary-not_longer [] lt = omega arith
-    primary-not_longer (Sign symbol ∷ ts) lt = primary_by-not_longer symbol ts (omega arith)
-    primary-not_longer (Word word ∷ ts) lt = not_longer-less ts (Word word ∷ ts) (r.column word ts) (omega arith) ((local-col n word).not_longer ts (omega arith))
-    primary-not_longer (Number k ∷ ts) lt = omega arith
-    primary-not_longer (Big ∷ ts) lt = omega arith
-    primary-not_longer (Text bytes ∷ ts) lt = omega arith
+    primary-step : (x : Lexeme) → Step n (r.primary term) (λ ts. Err ts) x
+    primary-step (Sign symbol) = by symbol
+      where
+        by : (symbol : Symbol) → Step n (r.primary term) (λ ts. Err ts) (Sign symbol)
+        by s.Null = goes _ (λ ts. refl) (local-ok n null)
+        by s.Open = goes (r.brackets term) (λ ts. refl) local-brackets
+        by s.Case = goes (r.choice term) (λ ts. refl) local-choice
+        by _ = stays (λ ts. refl)
+    primary-step (Word word) = goes (r.column word) (λ ts. refl) (local-col n word)
+    primary-step (Number k) = goes _ (λ ts. refl) (local-ok n (int (pos k)))
+    primary-step Big = stays (λ ts. refl)
+    primary-step (Text bytes) = goes _ (λ ts. refl) (local-ok n (text bytes))
 
     local-primary : Local (suc n) (r.primary term)
-    local-primary = record { not_longer = primary-not_longer; along = along-by (r.primary term) n primary-one primary-more }
+    local-primary = local-first n (r.primary term) (λ ts. Err ts) refl primary-step (local-err (suc n))
 
     local-factor : Local (suc n) (r.factor term)
     unfolding r.factor
@@ -358,5 +274,5 @@ module _ (t : Lexeme) (m m' : Lexemes) where
     local-terms = local-operations l.Disjunction (suc n) (local-operations l.Conjunction (suc n) local-negation)
 
   pub local-term : (n : ℕ) → Local n term
-  local-term zero = record { not_longer = λ ts lt. absurd (omega arith); along = λ ts us lt e. absurd (omega arith) }
+  local-term zero = local-zero term
   local-term (suc n) = local-same (suc n) (r.operations term l.Disjunction) term term-unfolds (local-terms n (local-term n))

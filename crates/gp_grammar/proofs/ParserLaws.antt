@@ -1,17 +1,5 @@
 -- The laws of each parser: it takes what the grammar derives, and stops at the place of the fault.
-use Rattle.std.proofs.Common.{◌≡◌, ℕ, [], ◌∷◌, Ok, Err, ◌↔◌, refl, sym, ap, ◌∙◌, arith}
-use Rattle.std.proofs.lemmas.List.{append-nil}
-use Rattle.gp_lexer.specs.declared.lexeme.Lexeme.{Lexeme}
-use Rattle.gp_grammar.specs.Syntax.{Lexemes}
-use Rattle.gp_grammar.specs.Capping.{capped, capped_command, capped_line, capped_question}
-use Rattle.gp_grammar.specs.Grammar.{IsTerm}
-use Rattle.gp_grammar.specs.CommandGrammar.{IsCommand, IsScriptLine, Closed}
-use Rattle.gp_grammar.specs.QuestionGrammar.{IsQuestion}
-use Rattle.gp_grammar.specs.Places.{NoneGoesOn, Stops}
-use Rattle.gp_grammar.specs.Parsing.{Outcome, Parser, whole, term}
-use Rattle.gp_grammar.specs.CommandParsing.{command, script_line}
-use Rattle.gp_grammar.specs.QuestionParsing.{question}
-use Rattle.gp_grammar.specs.Laws.{Built}
+use Rattle.gp_grammar.proofs.Prelude.{◌≡◌, ℕ, [], ◌∷◌, Ok, Err, ◌↔◌, refl, sym, ap, ◌∙◌, arith, append-nil, Lexeme, Lexemes, capped, capped_command, capped_line, capped_question, IsTerm, IsCommand, IsScriptLine, Closed, IsQuestion, NoneGoesOn, Stops, Outcome, Parser, whole, term, command, script_line, question, Built}
 use Rattle.gp_grammar.proofs.CommandBuilding.{closed-built}
 use Rattle.gp_grammar.proofs.Soundness.{Sound, sound-phrase, term-sound}
 use Rattle.gp_grammar.proofs.Completeness.{term-complete}

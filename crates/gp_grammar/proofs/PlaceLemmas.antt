@@ -1,9 +1,5 @@
 -- A line has one place of a fault at most, and none where the grammar derives it.
-use Rattle.std.proofs.Common.{◌≡◌, [], ◌∷◌, ◌++◌, refl, sym, subst, ◌∙◌, append_assoc}
-use Rattle.std.proofs.lemmas.List.{append-nil}
-use Rattle.gp_lexer.specs.declared.lexeme.Lexeme.{Lexeme}
-use Rattle.gp_grammar.specs.Syntax.{Lexemes}
-use Rattle.gp_grammar.specs.Places.{NoneGoesOn, Stops}
+use Rattle.gp_grammar.proofs.Prelude.{◌≡◌, [], ◌∷◌, ◌++◌, refl, sym, subst, ◌∙◌, append_assoc, append-nil, Lexeme, Lexemes, NoneGoesOn, Stops}
 
 -- two ways to cut one list
 data Cut (a b r q : Lexemes) : Type 0 where

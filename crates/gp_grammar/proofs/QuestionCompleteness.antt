@@ -1,24 +1,16 @@
 -- What the grammar of questions derives is parsed.
-use Rattle.std.proofs.Common.{◌≡◌, ℕ, zero, suc, ◌<◌, ◌≤◌, Bool, true, false, cond, List, [], ◌∷◌, ◌++◌, map, length, Option, Some, None, Ok, Err, IfSome, refl, sym, ap, subst, arith, ◌∙◌, append_assoc}
-use Rattle.std.specs.Prelude.{codes, nat_le, option_map}
+use Rattle.gp_grammar.proofs.Prelude.{◌≡◌, ℕ, zero, suc, ◌<◌, ◌≤◌, Bool, true, false, cond, List, [], ◌∷◌, ◌++◌, map, length, Option, Some, None, Ok, Err, IfSome, refl, sym, ap, subst, arith, ◌∙◌, append_assoc, codes, nat_le, option_map, Sign, Word, Number, Big, Text, TokenKind, MAX_PATTERN_NUMBER, Lexemes, Bytes, Term, Command, Point, Pattern, Rule, rule_of, Rules, How, Query, LogChange, Subject, Side, Question, capped, capped_block, capped_command, capped_change, capped_side, capped_question, IsList, comma, IsQuery, IsStatement, Closed, IsPoint, IsSemiring, IsPattern, IsRule, IsRules, IsLeftOut, IsHow, IsSubject, IsChange, IsChanges, IsKept, IsKeptHow, IsSideSubject, IsSide, IsOpenQuestion, pattern_name, Outcome, Parser, ◌>>=◌, by_option, strip, ◌then◌, where_next, accept, strip_word, expect_word, push, condition, query, statement, number_if, number, pattern_of}
 use Rattle.std.proofs.lemmas.Bool.{le-leb}
 use Rattle.gp_lexer.specs.declared.lexeme.Symbol.TheVariants as s
-use Rattle.gp_lexer.specs.declared.lexeme.Lexeme.TheVariants.{Symbol as Sign, Word, Number, Big, Text}
 use Rattle.gp_grammar.specs.declared.semiring_name.SemiringName.{SemiringName}
-use Rattle.gp_grammar.specs.declared.token_kind.TokenKind.{TokenKind}
 use Rattle.gp_grammar.specs.declared.token_kind.TokenKind.TheVariants as token
-use Rattle.gp_grammar.specs.declared.limits.TheConstants.{MAX_PATTERN_NUMBER}
 use Rattle.gp_grammar.specs.Syntax as syntax
-use Rattle.gp_grammar.specs.Syntax.{Lexemes, Bytes, Term, Command, Point, Pattern, Rule, rule_of, Rules, How, Query, LogChange, Subject, Side, Question}
-use Rattle.gp_grammar.specs.Capping.{capped, capped_block, capped_command, capped_change, capped_side, capped_question}
+use Rattle.gp_grammar.specs.Syntax.{BareQuestion}
 use Rattle.gp_grammar.specs.CommandGrammar as l
-use Rattle.gp_grammar.specs.CommandGrammar.{IsList, comma, IsQuery, IsStatement, Closed}
 use Rattle.gp_grammar.specs.QuestionGrammar as g
-use Rattle.gp_grammar.specs.QuestionGrammar.{IsPoint, IsSemiring, IsPattern, IsRule, IsRules, IsLeftOut, IsHow, IsSubject, IsChange, IsChanges, IsKept, IsKeptHow, IsSideSubject, IsSide, IsOpenQuestion, pattern_name}
-use Rattle.gp_grammar.specs.Parsing.{Outcome, Parser, ◌>>=◌, by_option, strip, expect}
-use Rattle.gp_grammar.specs.CommandParsing.{◌then◌, where_next, accept, strip_word, expect_word, push, condition, query, statement}
+use Rattle.gp_grammar.specs.QuestionGrammar.{IsBareQuestion}
+use Rattle.gp_grammar.specs.Parsing.{expect}
 use Rattle.gp_grammar.specs.QuestionParsing as q
-use Rattle.gp_grammar.specs.QuestionParsing.{number_if, number, pattern_of}
 use Rattle.gp_grammar.proofs.Agreement.{Agree, agree-refl, agree-bind, agree-weaken, strip-less}
 use Rattle.gp_grammar.proofs.Shrinking.{Below, Shrinks, Keeps, shrinks-keeps, keeps-accept, shrinks-bind, keeps-bind, keeps-next, shrinks-then, shrinks-sound}
 use Rattle.gp_grammar.proofs.CommandCompleteness.{EndsQuery, close-ends, separated-complete, separated-exact, in_brackets-complete, condition-complete, query-complete, statement-complete, closed-complete}
@@ -472,18 +464,22 @@ ask-complete a b x xs i j rest h =
 what_if-split : (a b c rest : Lexemes) → (a ++ (Word (codes "of") ∷ (b ++ c))) ++ rest ≡ a ++ (Word (codes "of") ∷ (b ++ (c ++ rest)))
 what_if-split a b c rest = simp append_assoc
 
-open_question-complete : (a : Lexemes) (x : Question) → IsOpenQuestion a x → (rest : Lexemes) → EndsQuery rest → q.open_question (a ++ rest) ≡ Ok (capped_question x, rest)
+bare-complete : (a : Lexemes) (x : BareQuestion) → IsBareQuestion a x → (rest : Lexemes) → q.open_question (a ++ rest) ≡ Ok (syntax.bare x, rest)
 unfolding q.open_question q.changes
-open_question-complete _ _ g.transactions rest h = refl
-open_question-complete _ _ (g.log t) rest h = refl
-open_question-complete _ _ (g.versions table) rest h = refl
-open_question-complete _ _ (g.changes t k) rest h = refl
-open_question-complete _ _ (g.commit_changes t) rest h = refl
-open_question-complete _ _ (g.conflicts t) rest h = refl
+bare-complete _ _ g.transactions rest = refl
+bare-complete _ _ (g.log t) rest = refl
+bare-complete _ _ (g.versions table) rest = refl
+bare-complete _ _ (g.changes t k) rest = refl
+bare-complete _ _ (g.commit_changes t) rest = refl
+bare-complete _ _ (g.conflicts t) rest = refl
+bare-complete _ _ g.serial rest = refl
+bare-complete _ _ g.check rest = refl
+
+open_question-complete : (a : Lexemes) (x : Question) → IsOpenQuestion a x → (rest : Lexemes) → EndsQuery rest → q.open_question (a ++ rest) ≡ Ok (capped_question x, rest)
+unfolding q.open_question
+open_question-complete _ _ (g.bare a x i) rest h = bare-complete a x i rest
 open_question-complete _ _ (g.history table w cond i) rest h = history-of table (w ++ rest) rest (option_map capped cond) (condition-complete w cond i rest h.block.loose h.block.no_where)
 open_question-complete _ _ (g.when a xs i) rest h = when-of (a ++ rest) rest (map capped_block xs) (query-complete a xs i rest h)
-open_question-complete _ _ g.serial rest h = refl
-open_question-complete _ _ g.check rest h = refl
 open_question-complete _ _ (g.diff a b c first second xs i j k) rest h =
     ap q.diff (diff-split a b c rest)
     ∙ diff-of (capped_side first) (a ++ (Word (codes "to") ∷ (b ++ (c ++ rest)))) (b ++ (c ++ rest)) rest (syntax.diff (capped_side first) (capped_side second) (map capped_block xs))

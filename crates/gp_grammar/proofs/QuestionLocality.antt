@@ -1,59 +1,14 @@
 -- No lexeme after a fault matters to the parser of questions.
-use Rattle.std.proofs.Common.{◌≡◌, ℕ, zero, suc, true, false, List, [], ◌∷◌, Option, Some, None, Ok, Err, refl, subst}
-use Rattle.std.specs.Prelude.{codes, nat_le, option_map}
+use Rattle.gp_grammar.proofs.Prelude.{ap, Outcome, Option, by_option, cond, Bool, ◌≡◌, ℕ, zero, suc, true, false, List, [], ◌∷◌, Some, None, Ok, Err, refl, codes, nat_le, Lexeme, Sign, Word, Number, Big, Text, TokenKind, MAX_PATTERN_NUMBER, Lexemes, Bytes, Point, Rule, rule_of, Rules, How, Query, Subject, Side, Question, pattern_name, Parser, ◌>>=◌, identifier, ◌then◌, where_next, fail, accept, where_word, expect_word, push, separated, in_brackets, condition, query, statement, number, pattern_of}
 use Rattle.gp_lexer.specs.declared.lexeme.Symbol.TheVariants as s
-use Rattle.gp_lexer.specs.declared.lexeme.Lexeme.{Lexeme}
-use Rattle.gp_lexer.specs.declared.lexeme.Lexeme.TheVariants.{Symbol as Sign, Word, Number, Big, Text}
 use Rattle.gp_grammar.specs.declared.semiring_name.SemiringName.TheVariants as semiring
-use Rattle.gp_grammar.specs.declared.token_kind.TokenKind.{TokenKind}
 use Rattle.gp_grammar.specs.declared.token_kind.TokenKind.TheVariants as token
-use Rattle.gp_grammar.specs.declared.limits.TheConstants.{MAX_PATTERN_NUMBER}
 use Rattle.gp_grammar.specs.Syntax as syntax
-use Rattle.gp_grammar.specs.Syntax.{Lexemes, Bytes, Command, Point, Pattern, Rule, rule_of, Rules, How, Query, LogChange, Subject, Side, Question}
-use Rattle.gp_grammar.specs.QuestionGrammar.{pattern_name}
-use Rattle.gp_grammar.specs.Parsing.{Outcome, Parser, ◌>>=◌, by_option, identifier}
-use Rattle.gp_grammar.specs.CommandParsing.{◌then◌, where_next, fail, accept, where_word, expect_word, push, separated, in_brackets, condition, query, statement}
 use Rattle.gp_grammar.specs.QuestionParsing as q
-use Rattle.gp_grammar.specs.QuestionParsing.{number_if, number, pattern_of}
 use Rattle.gp_grammar.proofs.QuestionCompleteness.{after_rule, rules_from-unfolds, shrinks-change, shrinks-left_out}
-use Rattle.gp_grammar.proofs.Locality.{Local, local-ok, local-bind, local-err, local-expect, local-identifier, local-same}
-use Rattle.gp_grammar.proofs.LocalCombinators.{first_choice, local-zero, local-next, local-next-all, local-word-all, local-number, local-first-all, local-separated, local-in_brackets, local-closed}
+use Rattle.gp_grammar.proofs.Locality.{Local, Step, goes, stays, local-zero, local-first-all, local-ok, local-bind, local-err, local-expect, local-identifier, local-same}
+use Rattle.gp_grammar.proofs.LocalCombinators.{local-next, local-next-all, local-word-all, local-number, local-separated, local-in_brackets, local-closed}
 use Rattle.gp_grammar.proofs.CommandLocality.{local-condition, local-query, local-statement}
-use Rattle.std.proofs.lemmas.Option.{same_Some}
-
-abbrev pattern_choice : Lexeme → Option (Parser Pattern)
-pattern_choice (Word name) = option_map q.pattern_parts (pattern_name name)
-pattern_choice (Sign symbol) = None
-pattern_choice (Number n) = None
-pattern_choice Big = None
-pattern_choice (Text bytes) = None
-
-pattern-first : (ts : Lexemes) → q.pattern ts ≡ first_choice pattern_choice fail ts
-pattern-first [] = refl
-pattern-first (Word name ∷ ts) = go (pattern_name name)
-  where
-    go : (o : Option (TokenKind × Option ℕ)) → by_option o (Err (Word name ∷ ts)) (λ kind. q.pattern_parts kind ts) ≡ by_option (option_map q.pattern_parts o) (Err (Word name ∷ ts)) (λ p. p ts)
-    go None = refl
-    go (Some p) = refl
-pattern-first (Sign symbol ∷ ts) = refl
-pattern-first (Number n ∷ ts) = refl
-pattern-first (Big ∷ ts) = refl
-pattern-first (Text bytes ∷ ts) = refl
-
-abbrev dropped_choice : ℕ → Lexeme → Option (Parser LogChange)
-dropped_choice x (Number k) = Some (accept (syntax.drop x k))
-dropped_choice x (Sign symbol) = None
-dropped_choice x (Word word) = None
-dropped_choice x Big = None
-dropped_choice x (Text bytes) = None
-
-dropped-first : (x : ℕ) (ts : Lexemes) → q.dropped_from x ts ≡ first_choice (dropped_choice x) (accept (syntax.drop_all x)) ts
-dropped-first x [] = refl
-dropped-first x (Number k ∷ ts) = refl
-dropped-first x (Sign symbol ∷ ts) = refl
-dropped-first x (Word word ∷ ts) = refl
-dropped-first x (Big ∷ ts) = refl
-dropped-first x (Text bytes ∷ ts) = refl
 
 module _ (t : Lexeme) (m m' : Lexemes) where
   abbrev IsLocal : {A : Type 0} → Parser A → Type 0
@@ -106,19 +61,19 @@ module _ (t : Lexeme) (m m' : Lexemes) where
   is_local-parts (kind, Some x) = local-next-all t m m' s.Dot (λ ts. q.pattern_number ts >>= (λ k. q.pattern_row kind x k.0 k.1)) (accept (pattern_of kind (Some x) None None))
       (is_local-bind q.pattern_number _ is_local-pattern_number (λ k. is_local-row kind x k)) (is_local-ok (pattern_of kind (Some x) None None))
 
-  pattern-chosen : (n : ℕ) (x : Lexeme) (p : Parser Pattern) → pattern_choice x ≡ Some p → Local t m m' n p
-  pattern-chosen n (Word name) p e = go (pattern_name name) e
+  pattern-step : (n : ℕ) (x : Lexeme) → Step t m m' n q.pattern fail x
+  pattern-step n (Word name) = by (pattern_name name) refl
     where
-      go : (o : Option (TokenKind × Option ℕ)) → option_map q.pattern_parts o ≡ Some p → Local t m m' n p
-      go None e = cc
-      go (Some kind) e = let P : Parser Pattern → Type 0 = λ z. Local t m m' n z in subst P (same_Some (q.pattern_parts kind) p e) (is_local-parts kind n)
-  pattern-chosen n (Sign symbol) p e = cc
-  pattern-chosen n (Number k) p e = cc
-  pattern-chosen n Big p e = cc
-  pattern-chosen n (Text bytes) p e = cc
+      by : (o : Option (TokenKind × Option ℕ)) → pattern_name name ≡ o → Step t m m' n q.pattern fail (Word name)
+      by None e = stays (λ ts. ap (λ o. by_option o (Err (Word name ∷ ts)) (λ kind. q.pattern_parts kind ts)) e)
+      by (Some kind) e = goes (q.pattern_parts kind) (λ ts. ap (λ o. by_option o (Err (Word name ∷ ts)) (λ kind. q.pattern_parts kind ts)) e) (is_local-parts kind n)
+  pattern-step n (Sign symbol) = stays (λ ts. refl)
+  pattern-step n (Number k) = stays (λ ts. refl)
+  pattern-step n Big = stays (λ ts. refl)
+  pattern-step n (Text bytes) = stays (λ ts. refl)
 
   is_local-pattern : IsLocal q.pattern
-  is_local-pattern = local-first-all t m m' q.pattern pattern_choice fail pattern-first pattern-chosen is_local-fail
+  is_local-pattern = local-first-all t m m' q.pattern fail refl pattern-step is_local-fail
 
   is_local-rule : IsLocal q.rule
   unfolding q.rule
@@ -204,16 +159,15 @@ module _ (t : Lexeme) (m m' : Lexemes) where
   is_local-by_statement : IsLocal q.by_statement
   is_local-by_statement = is_local-expect (codes "by") (in_brackets statement) (λ n. local-in_brackets t m m' statement n (local-statement t m m' n))
 
-  dropped-chosen : (x : ℕ) (n : ℕ) (y : Lexeme) (p : Parser LogChange) → dropped_choice x y ≡ Some p → Local t m m' n p
-  dropped-chosen x n (Number k) p e =
-      let P : Parser LogChange → Type 0 = λ z. Local t m m' n z in subst P (same_Some (accept (syntax.drop x k)) p e) (local-ok t m m' n (syntax.drop x k))
-  dropped-chosen x n (Sign symbol) p e = cc
-  dropped-chosen x n (Word word) p e = cc
-  dropped-chosen x n Big p e = cc
-  dropped-chosen x n (Text bytes) p e = cc
+  dropped-step : (x : ℕ) (n : ℕ) (y : Lexeme) → Step t m m' n (q.dropped_from x) (accept (syntax.drop_all x)) y
+  dropped-step x n (Number k) = goes _ (λ ts. refl) (local-ok t m m' n (syntax.drop x k))
+  dropped-step x n (Sign symbol) = stays (λ ts. refl)
+  dropped-step x n (Word word) = stays (λ ts. refl)
+  dropped-step x n Big = stays (λ ts. refl)
+  dropped-step x n (Text bytes) = stays (λ ts. refl)
 
   is_local-dropped_from : (x : ℕ) → IsLocal (q.dropped_from x)
-  is_local-dropped_from x = local-first-all t m m' (q.dropped_from x) (dropped_choice x) (accept (syntax.drop_all x)) (dropped-first x) (dropped-chosen x) (is_local-ok (syntax.drop_all x))
+  is_local-dropped_from x = local-first-all t m m' (q.dropped_from x) (accept (syntax.drop_all x)) refl (dropped-step x) (is_local-ok (syntax.drop_all x))
 
   is_local-dropped : IsLocal q.dropped
   unfolding q.dropped
@@ -263,13 +217,13 @@ module _ (t : Lexeme) (m m' : Lexemes) where
   is_local-diff = is_local-bind q.side _ is_local-side (λ first. is_local-expect (codes "to") (q.second_side first) (is_local-second_side first))
 
   is_local-versions : IsLocal q.versions_of
-  is_local-versions = is_local-expect (codes "of") _ (is_local-bind identifier _ (λ n. local-identifier t m m' n) (λ table. is_local-ok (syntax.versions table)))
+  is_local-versions = is_local-expect (codes "of") _ (is_local-bind identifier _ (λ n. local-identifier t m m' n) (λ table. is_local-ok (syntax.bare (syntax.versions table))))
 
   is_local-changes : IsLocal q.changes
   unfolding q.changes
-  is_local-changes = is_local-bind number _ is_local-number (λ x. local-next-all t m m' s.Commit (accept (syntax.commit_changes x))
-      (λ rest. number rest >>= (λ k. Ok (syntax.changes x k.0, k.1))) (is_local-ok (syntax.commit_changes x))
-      (is_local-bind number _ is_local-number (λ k. is_local-ok (syntax.changes x k))))
+  is_local-changes = is_local-bind number _ is_local-number (λ x. local-next-all t m m' s.Commit (accept (syntax.bare (syntax.commit_changes x)))
+      (λ rest. number rest >>= (λ k. Ok (syntax.bare (syntax.changes x k.0), k.1))) (is_local-ok (syntax.bare (syntax.commit_changes x)))
+      (is_local-bind number _ is_local-number (λ k. is_local-ok (syntax.bare (syntax.changes x k)))))
 
   is_local-history : IsLocal q.history
   unfolding q.history
@@ -292,17 +246,17 @@ module _ (t : Lexeme) (m m' : Lexemes) where
 
   is_local-open_question : IsLocal q.open_question
   unfolding q.open_question
-  is_local-open_question = local-word-all t m m' (codes "log") (λ ts. number ts >>= (λ t. Ok (syntax.log t.0, t.1))) q.from_versions
-      (is_local-bind number _ is_local-number (λ x. is_local-ok (syntax.log x)))
+  is_local-open_question = local-word-all t m m' (codes "log") (λ ts. number ts >>= (λ t. Ok (syntax.bare (syntax.log t.0), t.1))) q.from_versions
+      (is_local-bind number _ is_local-number (λ x. is_local-ok (syntax.bare (syntax.log x))))
       (local-word-all t m m' (codes "versions") q.versions_of q.from_transactions is_local-versions
-      (local-word-all t m m' (codes "transactions") (accept syntax.transactions) q.from_changes (is_local-ok syntax.transactions)
+      (local-word-all t m m' (codes "transactions") (accept (syntax.bare syntax.transactions)) q.from_changes (is_local-ok (syntax.bare syntax.transactions))
       (local-word-all t m m' (codes "changes") q.changes q.from_conflicts is_local-changes
-      (local-word-all t m m' (codes "conflicts") (λ ts. number ts >>= (λ t. Ok (syntax.conflicts t.0, t.1))) q.from_history
-      (is_local-bind number _ is_local-number (λ x. is_local-ok (syntax.conflicts x)))
+      (local-word-all t m m' (codes "conflicts") (λ ts. number ts >>= (λ t. Ok (syntax.bare (syntax.conflicts t.0), t.1))) q.from_history
+      (is_local-bind number _ is_local-number (λ x. is_local-ok (syntax.bare (syntax.conflicts x))))
       (local-word-all t m m' (codes "history") (expect_word (codes "of") q.history) q.from_when (is_local-expect (codes "of") q.history is_local-history)
       (local-next-all t m m' s.When q.when q.from_serial is_local-when
-      (local-word-all t m m' (codes "serial") (accept syntax.serial) q.from_check (is_local-ok syntax.serial)
-      (local-word-all t m m' (codes "check") (accept syntax.check) q.from_diff (is_local-ok syntax.check)
+      (local-word-all t m m' (codes "serial") (accept (syntax.bare syntax.serial)) q.from_check (is_local-ok (syntax.bare syntax.serial))
+      (local-word-all t m m' (codes "check") (accept (syntax.bare syntax.check)) q.from_diff (is_local-ok (syntax.bare syntax.check))
       (local-word-all t m m' (codes "diff") q.diff q.from_causes is_local-diff
       (local-word-all t m m' (codes "causes") (expect_word (codes "of") (q.asked_of syntax.causes q.kept)) q.from_what_if
       (is_local-expect (codes "of") (q.asked_of syntax.causes q.kept) (is_local-asked_of syntax.causes q.kept is_local-kept))

@@ -1,26 +1,15 @@
 -- The parser of questions is sound, and what it leaves before a fault begins a question.
-use Rattle.std.proofs.Common.{◌≡◌, ℕ, zero, suc, ◌≤◌, Bool, true, false, cond, List, [], ◌∷◌, ◌++◌, length, map, Option, Some, None, Ok, Err, refl, sym, ap, subst, ◌∙◌, append_assoc}
-use Rattle.std.specs.Prelude.{codes, nat_le}
-use Rattle.std.proofs.lemmas.List.{append-nil}
+use Rattle.gp_grammar.proofs.Prelude.{◌≡◌, ℕ, zero, suc, ◌≤◌, Bool, true, false, cond, List, [], ◌∷◌, ◌++◌, length, map, Option, Some, None, Ok, Err, refl, sym, ap, subst, ◌∙◌, append_assoc, codes, nat_le, append-nil, Sign, Word, Number, Big, Text, TokenKind, MAX_PATTERN_NUMBER, Lexemes, Bytes, Term, Command, Point, Pattern, Rule, rule_of, Rules, How, Query, LogChange, Subject, Side, Question, capped_change, capped_side, capped_question, IsList, comma, Closed, IsPoint, IsSemiring, IsPattern, IsRule, IsRules, IsLeftOut, IsHow, IsSubject, IsChange, IsChanges, IsKept, IsKeptHow, IsSideSubject, IsSide, IsOpenQuestion, pattern_name, Outcome, Parser, ◌>>=◌, by_option, identifier, ◌then◌, where_next, fail, accept, where_word, expect_word, push, separated, in_brackets, condition, query, statement, number_if, number, pattern_of, Built}
 use Rattle.std.proofs.lemmas.Bool.{leb-true}
 use Rattle.gp_lexer.specs.declared.lexeme.Symbol.TheVariants as s
-use Rattle.gp_lexer.specs.declared.lexeme.Lexeme.TheVariants.{Symbol as Sign, Word, Number, Big, Text}
 use Rattle.gp_grammar.specs.declared.semiring_name.SemiringName.TheVariants as semiring
-use Rattle.gp_grammar.specs.declared.token_kind.TokenKind.{TokenKind}
 use Rattle.gp_grammar.specs.declared.token_kind.TokenKind.TheVariants as token
-use Rattle.gp_grammar.specs.declared.limits.TheConstants.{MAX_PATTERN_NUMBER}
 use Rattle.gp_grammar.specs.Syntax as syntax
-use Rattle.gp_grammar.specs.Syntax.{Lexemes, Bytes, Term, Command, Point, Pattern, Rule, rule_of, Rules, How, Query, LogChange, Subject, Side, Question}
-use Rattle.gp_grammar.specs.Capping.{capped_change, capped_side, capped_question}
+use Rattle.gp_grammar.specs.Syntax.{BareQuestion}
 use Rattle.gp_grammar.specs.CommandGrammar as l
-use Rattle.gp_grammar.specs.CommandGrammar.{IsList, comma, Closed}
 use Rattle.gp_grammar.specs.QuestionGrammar as g
-use Rattle.gp_grammar.specs.QuestionGrammar.{IsPoint, IsSemiring, IsPattern, IsRule, IsRules, IsLeftOut, IsHow, IsSaw, IsSubject, IsChange, IsChanges, IsKept, IsKeptHow, IsSideSubject, IsSide, IsOpenQuestion, pattern_name}
-use Rattle.gp_grammar.specs.Parsing.{Outcome, Parser, ◌>>=◌, by_option, identifier}
-use Rattle.gp_grammar.specs.CommandParsing.{◌then◌, where_next, fail, accept, where_word, expect_word, push, separated, in_brackets, condition, query, statement}
+use Rattle.gp_grammar.specs.QuestionGrammar.{IsSaw, IsBareQuestion}
 use Rattle.gp_grammar.specs.QuestionParsing as q
-use Rattle.gp_grammar.specs.QuestionParsing.{number_if, number, pattern_of}
-use Rattle.gp_grammar.specs.Laws.{Built}
 use Rattle.gp_grammar.proofs.CommandBuilding.{BuildsWhere, BuildsQuery, BuildsStatement, list-built}
 use Rattle.gp_grammar.proofs.Soundness.{Sentence, Sound, sound-ok, sound-err, sound-shift, sound-bind, sound-phrase, expect-sound, identifier-sound}
 use Rattle.gp_grammar.proofs.SoundCombinators.{next-sound, word-sound, expect_word-sound, separated-sound, in_brackets-sound, closed-sound}
@@ -217,7 +206,7 @@ without-sound ts = sound-bind (IsList comma IsLeftOut) (λ b y. IsHow (Word (cod
     expect_word-sound (codes "of") (λ b y. IsHow (Word (codes "without") ∷ (a ++ b)) y) (accept (syntax.without xs)) ts1
     (λ ts2. sound-ok _ ts2 (syntax.without xs) (g.without a xs i)))
 
--- the same, where it stands before a state of which some rows are left
+-- WITHOUT before a state of which some rows are left
 kept_without-sound : (ts : Lexemes) → Sound (λ b y. IsKeptHow (Word (codes "without") ∷ b) y) ts (q.without ts)
 unfolding q.without
 kept_without-sound ts = sound-bind (IsList comma IsLeftOut) (λ b y. IsKeptHow (Word (codes "without") ∷ b) y) ts (separated q.left_out ts) _
@@ -450,14 +439,17 @@ diff-sound ts = sound-bind BuildsSide (λ b y. BuildsQuestion (Word (codes "diff
 
 -- ---- whole questions
 
+builds-bare : (a : Lexemes) (x : BareQuestion) → IsBareQuestion a x → BuildsQuestion a (syntax.bare x)
+builds-bare a x i = record { tree = syntax.bare x; is = g.bare a x i; same = refl }
+
 changes-sound : (ts : Lexemes) → Sound (λ b y. BuildsQuestion (Word (codes "changes") ∷ b) y) ts (q.changes ts)
 unfolding q.changes
 changes-sound ts = number-sound (λ b y. BuildsQuestion (Word (codes "changes") ∷ b) y) ts _ (λ t ts1.
-    next-sound s.Commit (λ b y. BuildsQuestion (Word (codes "changes") ∷ Number t ∷ b) y) (accept (syntax.commit_changes t))
-    (λ rest. number rest >>= (λ k. Ok (syntax.changes t k.0, k.1))) ts1
-    (λ ts2. sound-ok _ ts2 (syntax.commit_changes t) (record { tree = syntax.commit_changes t; is = g.commit_changes t; same = refl }))
+    next-sound s.Commit (λ b y. BuildsQuestion (Word (codes "changes") ∷ Number t ∷ b) y) (accept (syntax.bare (syntax.commit_changes t)))
+    (λ rest. number rest >>= (λ k. Ok (syntax.bare (syntax.changes t k.0), k.1))) ts1
+    (λ ts2. sound-ok _ ts2 (syntax.bare (syntax.commit_changes t)) (builds-bare _ _ (g.commit_changes t)))
     (number-sound (λ b y. BuildsQuestion (Word (codes "changes") ∷ Number t ∷ b) y) ts1 _
-    (λ k ts2. sound-ok _ ts2 (syntax.changes t k) (record { tree = syntax.changes t k; is = g.changes t k; same = refl }))))
+    (λ k ts2. sound-ok _ ts2 (syntax.bare (syntax.changes t k)) (builds-bare _ _ (g.changes t k)))))
 
 histories : (table : Bytes) (w : Lexemes) (cond : Option Term) → BuildsWhere w cond
     → BuildsQuestion (Word (codes "history") ∷ Word (codes "of") ∷ Word table ∷ w) (syntax.history table cond)
@@ -503,25 +495,25 @@ from_explain-sound ts =
 open_question-sound : (ts : Lexemes) → Sound BuildsQuestion ts (q.open_question ts)
 unfolding q.open_question
 open_question-sound ts =
-    word-sound (codes "log") BuildsQuestion (λ ts. number ts >>= (λ t. Ok (syntax.log t.0, t.1))) q.from_versions ts
-    (λ ts1. number-sound (λ b y. BuildsQuestion (Word (codes "log") ∷ b) y) ts1 _ (λ t ts2. sound-ok _ ts2 (syntax.log t) (record { tree = syntax.log t; is = g.log t; same = refl })))
+    word-sound (codes "log") BuildsQuestion (λ ts. number ts >>= (λ t. Ok (syntax.bare (syntax.log t.0), t.1))) q.from_versions ts
+    (λ ts1. number-sound (λ b y. BuildsQuestion (Word (codes "log") ∷ b) y) ts1 _ (λ t ts2. sound-ok _ ts2 (syntax.bare (syntax.log t)) (builds-bare _ _ (g.log t))))
     (word-sound (codes "versions") BuildsQuestion q.versions_of q.from_transactions ts
     (λ ts1. expect_word-sound (codes "of") (λ b y. BuildsQuestion (Word (codes "versions") ∷ b) y) _ ts1 (λ ts2.
     identifier-sound (λ b y. BuildsQuestion (Word (codes "versions") ∷ Word (codes "of") ∷ b) y) ts2 _
-    (λ table ts3. sound-ok _ ts3 (syntax.versions table) (record { tree = syntax.versions table; is = g.versions table; same = refl }))))
-    (word-sound (codes "transactions") BuildsQuestion (accept syntax.transactions) q.from_changes ts
-    (λ ts1. sound-ok _ ts1 syntax.transactions (record { tree = syntax.transactions; is = g.transactions; same = refl }))
+    (λ table ts3. sound-ok _ ts3 (syntax.bare (syntax.versions table)) (builds-bare _ _ (g.versions table)))))
+    (word-sound (codes "transactions") BuildsQuestion (accept (syntax.bare syntax.transactions)) q.from_changes ts
+    (λ ts1. sound-ok _ ts1 (syntax.bare syntax.transactions) (builds-bare _ _ g.transactions))
     (word-sound (codes "changes") BuildsQuestion q.changes q.from_conflicts ts changes-sound
-    (word-sound (codes "conflicts") BuildsQuestion (λ ts. number ts >>= (λ t. Ok (syntax.conflicts t.0, t.1))) q.from_history ts
+    (word-sound (codes "conflicts") BuildsQuestion (λ ts. number ts >>= (λ t. Ok (syntax.bare (syntax.conflicts t.0), t.1))) q.from_history ts
     (λ ts1. number-sound (λ b y. BuildsQuestion (Word (codes "conflicts") ∷ b) y) ts1 _
-    (λ t ts2. sound-ok _ ts2 (syntax.conflicts t) (record { tree = syntax.conflicts t; is = g.conflicts t; same = refl })))
+    (λ t ts2. sound-ok _ ts2 (syntax.bare (syntax.conflicts t)) (builds-bare _ _ (g.conflicts t))))
     (word-sound (codes "history") BuildsQuestion (expect_word (codes "of") q.history) q.from_when ts
     (λ ts1. expect_word-sound (codes "of") (λ b y. BuildsQuestion (Word (codes "history") ∷ b) y) q.history ts1 history-sound)
     (next-sound s.When BuildsQuestion q.when q.from_serial ts when-sound
-    (word-sound (codes "serial") BuildsQuestion (accept syntax.serial) q.from_check ts
-    (λ ts1. sound-ok _ ts1 syntax.serial (record { tree = syntax.serial; is = g.serial; same = refl }))
-    (word-sound (codes "check") BuildsQuestion (accept syntax.check) q.from_diff ts
-    (λ ts1. sound-ok _ ts1 syntax.check (record { tree = syntax.check; is = g.check; same = refl }))
+    (word-sound (codes "serial") BuildsQuestion (accept (syntax.bare syntax.serial)) q.from_check ts
+    (λ ts1. sound-ok _ ts1 (syntax.bare syntax.serial) (builds-bare _ _ g.serial))
+    (word-sound (codes "check") BuildsQuestion (accept (syntax.bare syntax.check)) q.from_diff ts
+    (λ ts1. sound-ok _ ts1 (syntax.bare syntax.check) (builds-bare _ _ g.check))
     (word-sound (codes "diff") BuildsQuestion q.diff q.from_causes ts diff-sound
     (word-sound (codes "causes") BuildsQuestion (expect_word (codes "of") (q.asked_of syntax.causes q.kept)) q.from_what_if ts
     (λ ts1. expect_word-sound (codes "of") (λ b y. BuildsQuestion (Word (codes "causes") ∷ b) y) (q.asked_of syntax.causes q.kept) ts1

@@ -1,16 +1,8 @@
 -- Numbered lines are read in exactly one way, which is that of the parser.
-use Rattle.std.proofs.Common.{◌≡◌, ℕ, List, [], ◌∷◌, Result, Ok, Err, refl, sym}
-use Rattle.gp_grammar.specs.Syntax.{Lexemes, Bytes, ScriptLine, Question}
-use Rattle.gp_grammar.specs.Capping.{capped_line, capped_question}
-use Rattle.gp_grammar.specs.CommandGrammar.{IsScriptLine}
-use Rattle.gp_grammar.specs.CommandParsing.{script_line}
-use Rattle.gp_grammar.specs.Laws.{CapsFairly, ReadsLinesOnce}
-use Rattle.gp_grammar.specs.Limits.{Shape, line_shape, question_shape}
-use Rattle.gp_grammar.specs.LineReading.{Fault, IsReadAs, AreReadAs, no_lines, next_line}
-use Rattle.gp_grammar.specs.Parsing.{Parser}
-use Rattle.gp_grammar.specs.QuestionGrammar.{IsQuestion}
-use Rattle.gp_grammar.specs.QuestionParsing.{question}
-use Rattle.gp_grammar.specs.Reading.{read_line, read_lines, question_of, script_line_of}
+use Rattle.gp_grammar.proofs.Prelude.{◌≡◌, ℕ, List, [], ◌∷◌, Result, Ok, Err, refl, sym, Lexemes, Bytes, ScriptLine, Question, capped_line, capped_question, IsScriptLine, script_line, CapsFairly, Shape, line_shape, question_shape, Fault, Parser, IsQuestion, question, read_line, question_of, script_line_of}
+use Rattle.gp_grammar.specs.Laws.{ReadsLinesOnce}
+use Rattle.gp_grammar.specs.LineReading.{IsReadAs, AreReadAs, no_lines, next_line}
+use Rattle.gp_grammar.specs.Reading.{read_lines}
 use Rattle.gp_grammar.proofs.LineLaws.{lines-read, lines-refused}
 use Rattle.gp_grammar.proofs.ParserLaws.{Lawful, lawful-line, lawful-question}
 use Rattle.gp_grammar.proofs.ShapeLemmas.{lines-fair, questions-fair}

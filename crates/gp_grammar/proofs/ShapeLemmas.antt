@@ -1,21 +1,10 @@
 -- Capping keeps the first limit that is passed, and a command within the limits.
-use Rattle.std.proofs.Common.{◌≡◌, Bool, true, false, cond, ltb, List, [], ◌∷◌, ◌++◌, length, map, Option, Some, None, refl, sym, ap, ◌∙◌}
-use Rattle.std.specs.Prelude.{max, option_map, ◌||◌}
-use Rattle.std.proofs.lemmas.List.{map-append, length-map}
-use Rattle.std.proofs.lemmas.Bool.{ltb-false, ltb-true, lt-ltb, or_parts}
-use Rattle.gp_grammar.specs.declared.limits.TheConstants.{MAX_COLUMNS, MAX_FROM, MAX_BRANCHES, MAX_VALUES, MAX_NODES, MAX_LEVELS, MAX_CHANGES}
+use Rattle.gp_grammar.proofs.Prelude.{◌≡◌, Bool, true, false, cond, ltb, List, [], ◌∷◌, ◌++◌, length, map, Option, Some, None, refl, sym, ap, ◌∙◌, max, option_map, ◌||◌, map-append, ltb-false, ltb-true, or_parts, MAX_COLUMNS, MAX_FROM, MAX_BRANCHES, MAX_VALUES, MAX_NODES, MAX_LEVELS, MAX_CHANGES, Term, SetTerm, Item, Items, Block, Query, Command, ScriptLine, LogChange, Side, Question, Limit, Shape, nodes, levels, some_above, passed_limit, terms_of_condition, select_terms, terms_of_query, command_shape, line_shape, both, shape_of_count, question_shape, CapsFairly, term_shape, is_large, capped, capped_set, capped_items, capped_block, capped_command, capped_line, capped_change, capped_side, capped_question, IsTerm, IsCommand, IsScriptLine, IsQuestion, term, command, script_line, question}
+use Rattle.std.proofs.lemmas.List.{length-map}
+use Rattle.std.proofs.lemmas.Bool.{lt-ltb}
 use Rattle.gp_grammar.specs.Syntax as syntax
-use Rattle.gp_grammar.specs.Syntax.{Term, SetTerm, Item, Items, Block, Query, Command, ScriptLine, LogChange, Side, Question}
 use Rattle.gp_grammar.specs.Limits as l
-use Rattle.gp_grammar.specs.Limits.{Limit, Shape, nodes, levels, some_above, passed_limit, terms_of_condition, select_terms, terms_of_query, query_shape, shape_of_terms, command_shape, line_shape, change_shape, both, shape_of_count, commands_shape, changes_shape, side_shape, question_shape}
-use Rattle.gp_grammar.specs.Laws.{CapsFairly, term_shape}
-use Rattle.gp_grammar.specs.Capping.{is_large, capped, capped_set, capped_items, capped_block, capped_command, capped_line, capped_change, capped_side, capped_question}
-use Rattle.gp_grammar.specs.Grammar.{IsTerm}
-use Rattle.gp_grammar.specs.CommandGrammar.{IsCommand, IsScriptLine}
-use Rattle.gp_grammar.specs.QuestionGrammar.{IsQuestion}
-use Rattle.gp_grammar.specs.Parsing.{term}
-use Rattle.gp_grammar.specs.CommandParsing.{command, script_line}
-use Rattle.gp_grammar.specs.QuestionParsing.{question}
+use Rattle.gp_grammar.specs.Limits.{query_shape, shape_of_terms, change_shape, commands_shape, changes_shape, side_shape}
 use Rattle.gp_grammar.proofs.CappingLemmas.{Fair, capped-fair}
 
 -- ---- terms
@@ -282,16 +271,9 @@ diff-shape x z q =
     ∙ both-shape (both (side_shape x) (side_shape z)) (query_shape q)
 
 pub question-limit : (x : Question) → passed_limit (question_shape (capped_question x)) ≡ passed_limit (question_shape x)
-question-limit syntax.transactions = refl
-question-limit (syntax.log t) = refl
-question-limit (syntax.versions table) = refl
-question-limit (syntax.changes t k) = refl
-question-limit (syntax.commit_changes t) = refl
-question-limit (syntax.conflicts t) = refl
+question-limit (syntax.bare question) = refl
 question-limit (syntax.history table cond) = ap (λ z. passed_limit (shape_of_terms z)) (condition-terms cond) ∙ capped-limit (shape_of_terms (terms_of_condition cond))
 question-limit (syntax.when q) = ap passed_limit (query-shape q) ∙ capped-limit (query_shape q)
-question-limit syntax.serial = refl
-question-limit syntax.check = refl
 question-limit (syntax.diff first second q) = ap passed_limit (diff-shape first second q) ∙ capped-limit (both (both (side_shape first) (side_shape second)) (query_shape q))
 question-limit (syntax.causes subject q) = ap passed_limit (query-shape q) ∙ capped-limit (query_shape q)
 question-limit (syntax.ask subject q) = ap passed_limit (query-shape q) ∙ capped-limit (query_shape q)
@@ -299,16 +281,9 @@ question-limit (syntax.what_if changes subject q) = ap passed_limit (what_if-sha
 question-limit (syntax.explain_saw t k q) = ap passed_limit (query-shape q) ∙ capped-limit (query_shape q)
 
 pub question-exact : (x : Question) → passed_limit (question_shape x) ≡ None → capped_question x ≡ x
-question-exact syntax.transactions h = refl
-question-exact (syntax.log t) h = refl
-question-exact (syntax.versions table) h = refl
-question-exact (syntax.changes t k) h = refl
-question-exact (syntax.commit_changes t) h = refl
-question-exact (syntax.conflicts t) h = refl
+question-exact (syntax.bare question) h = refl
 question-exact (syntax.history table cond) h = ap (λ z. syntax.history table z) (exact-condition cond (within-exact (shape_of_terms (terms_of_condition cond)) h))
 question-exact (syntax.when q) h = ap (λ z. syntax.when z) (exact-query q (within-exact (query_shape q) h))
-question-exact syntax.serial h = refl
-question-exact syntax.check h = refl
 question-exact (syntax.diff first second q) h =
     let sides : List Term = (side_shape first).terms ++ (side_shape second).terms in
     let w : AreExact sides × AreExact (terms_of_query q) = exact-split sides (terms_of_query q) (within-exact (both (both (side_shape first) (side_shape second)) (query_shape q)) h) in

@@ -1,10 +1,9 @@
 -- Parsers leave fewer lexemes than they take, so that the bound of a repetition does not matter.
-use Rattle.std.proofs.Common.{◌≡◌, ℕ, zero, suc, ◌<◌, ◌≤◌, ◌+◌, [], ◌∷◌, length, length-append, Option, Some, None, Ok, Err, IfOk, IfSome, refl, ap, subst, arith, ◌∙◌}
-use Rattle.gp_lexer.specs.declared.lexeme.Symbol.{Symbol}
+use Rattle.gp_grammar.proofs.Prelude.{◌≡◌, ℕ, zero, suc, ◌<◌, ◌≤◌, ◌+◌, [], ◌∷◌, length, Option, Some, None, Ok, Err, IfOk, IfSome, refl, ap, subst, arith, ◌∙◌, Symbol, Lexemes, Outcome, Parser, ◌>>=◌, by_option, strip, expected, identifier, term, where_next, accept, push, in_brackets}
+use Rattle.std.proofs.Common.{length-append}
 use Rattle.gp_lexer.specs.declared.lexeme.Symbol.TheVariants as s
-use Rattle.gp_grammar.specs.Syntax.{Lexemes}
-use Rattle.gp_grammar.specs.Parsing.{Outcome, Parser, ◌>>=◌, by_option, strip, expected, expect, identifier, term}
-use Rattle.gp_grammar.specs.CommandParsing.{where_next, accept, repeat, many, push, separated, in_brackets}
+use Rattle.gp_grammar.specs.Parsing.{expect}
+use Rattle.gp_grammar.specs.CommandParsing.{repeat, many, separated}
 use Rattle.gp_grammar.proofs.Soundness.{Sound}
 use Rattle.gp_grammar.proofs.Agreement.{Agree, agree-refl, agree-bind, agree-weaken, strip-less, identifier-agree, term-agree}
 

@@ -1,17 +1,9 @@
 -- Soundness of options, words, lists and closed phrases.
-use Rattle.std.proofs.Common.{◌≡◌, ℕ, zero, suc, Bool, true, false, cond, List, [], ◌∷◌, ◌++◌, length, Option, Some, None, Ok, refl, sym, ap, subst, append_assoc}
-use Rattle.std.proofs.lemmas.List.{append-nil}
-use Rattle.std.proofs.lemmas.Slice.Eq.{bytes_eq-Decides}
-use Rattle.gp_lexer.specs.declared.lexeme.Symbol.{Symbol}
+use Rattle.gp_grammar.proofs.Prelude.{◌≡◌, ℕ, zero, suc, Bool, true, false, cond, List, [], ◌∷◌, ◌++◌, length, Option, Some, None, Ok, refl, sym, ap, subst, append_assoc, append-nil, bytes_eq-Decides, Symbol, Lexeme, Sign, Word, Number, Big, Text, Lexemes, Bytes, IsList, comma, Closed, Outcome, Parser, ◌>>=◌, by_option, strip, where_next, fail, accept, is_word, strip_word, where_word, expect_word, push, in_brackets, closed}
 use Rattle.gp_lexer.specs.declared.lexeme.Symbol.TheVariants as s
-use Rattle.gp_lexer.specs.declared.lexeme.Lexeme.{Lexeme}
-use Rattle.gp_lexer.specs.declared.lexeme.Lexeme.TheVariants.{Symbol as Sign, Word, Number, Big, Text}
-use Rattle.gp_grammar.specs.Syntax.{Lexemes, Bytes}
 use Rattle.gp_grammar.specs.CommandGrammar as g
-use Rattle.gp_grammar.specs.CommandGrammar.{IsList, comma, Closed}
-use Rattle.gp_grammar.specs.Parsing.{Outcome, Parser, ◌>>=◌, by_option, strip}
-use Rattle.gp_grammar.specs.CommandParsing.{where_next, fail, accept, is_word, strip_word, where_word, expect_word, repeat, many, push, separated, in_brackets, closed}
-use Rattle.gp_grammar.proofs.Soundness.{Sentence, Sound, sentence, sound-ok, sound-err, sound-at, sound-shift, sound-bind, sound-phrase, expect-sound, strip-split}
+use Rattle.gp_grammar.specs.CommandParsing.{repeat, many, separated}
+use Rattle.gp_grammar.proofs.Soundness.{Sentence, Sound, sentence, sound-ok, sound-err, sound-at, sound-shift, sound-bind, sound-phrase, expect-sound, strip-split, if-some}
 
 option-sound : {B : Type 0} (symbol : Symbol) (Q : Lexemes → B → Type 0) (some none : Parser B) (ts : Lexemes) (o : Option Lexemes) → strip symbol ts ≡ o
     → ((rest : Lexemes) → Sound (λ b y. Q (Sign symbol ∷ b) y) rest (some rest)) → Sound Q ts (none ts) → Sound Q ts (by_option o (none ts) some)
@@ -31,10 +23,6 @@ same-word text (Sign symbol) h = cc
 same-word text (Number n) h = cc
 same-word text Big h = cc
 same-word text (Text bytes) h = cc
-
-if-some : (b : Bool) (ts rest : Lexemes) → cond b (Some ts) None ≡ Some rest → (b ≡ true) × (ts ≡ rest)
-if-some true ts rest h = (refl, cc)
-if-some false ts rest h = cc
 
 word-split : (text : Bytes) (ts rest : Lexemes) → strip_word text ts ≡ Some rest → ts ≡ Word text ∷ rest
 word-split text [] rest h = cc

@@ -1,22 +1,13 @@
 -- The parser of terms is sound: it takes what the grammar derives, and the lexemes before a fault begin a term. Both are one proof, since a
 -- completion of these lexemes is what the parser gives on the empty rest.
-use Rattle.std.proofs.Common.{◌≡◌, ℕ, zero, suc, pos, List, [], ◌∷◌, ◌++◌, length, Option, Some, None, Ok, Err, Bool, true, false, cond, refl, sym, ap, subst, rules, append_assoc}
-use Rattle.std.proofs.lemmas.List.{append-nil}
+use Rattle.gp_grammar.proofs.Prelude.{◌≡◌, ℕ, zero, suc, pos, List, [], ◌∷◌, ◌++◌, length, Option, Some, None, Ok, Err, Bool, true, false, cond, refl, sym, ap, subst, append_assoc, append-nil, Symbol, Lexeme, Sign, Word, Number, Big, Text, Level, Op, Lexemes, Term, int, col, binary, neg, not, is_null, is_true, case, operator_of, comparison_of, Outcome, Parser, ◌>>=◌, is_symbol, strip, expected, identifier, next_operator, by_option, with_rest, Phrase, operand}
+use Rattle.std.proofs.Common.{rules}
 use denote.Enum.Bare.{same_true}
 use Rattle.gp_lexer.specs.contracts.lexeme.Symbol.{the_type}
-use Rattle.gp_lexer.specs.declared.lexeme.Symbol.{Symbol}
 use Rattle.gp_lexer.specs.declared.lexeme.Symbol.TheVariants as s
-use Rattle.gp_lexer.specs.declared.lexeme.Lexeme.{Lexeme}
-use Rattle.gp_lexer.specs.declared.lexeme.Lexeme.TheVariants.{Symbol as Sign, Word, Number, Big, Text}
-use Rattle.gp_grammar.specs.declared.level.Level.{Level}
 use Rattle.gp_grammar.specs.declared.level.Level.TheVariants as l
-use Rattle.gp_grammar.specs.declared.op.Op.{Op}
-use Rattle.gp_grammar.specs.Syntax.{Lexemes, Term, int, col}
-use Rattle.gp_grammar.specs.Capping.{binary, neg, not, is_null, is_true, case}
 use Rattle.gp_grammar.specs.Parsing as r
-use Rattle.gp_grammar.specs.Operators.{operator_of, comparison_of}
-use Rattle.gp_grammar.specs.Parsing.{Outcome, Parser, ◌>>=◌, is_symbol, strip, expected, expect, identifier, next_operator, by_option, with_rest}
-use Rattle.gp_grammar.specs.Grammar.{Phrase, operand}
+use Rattle.gp_grammar.specs.Parsing.{expect}
 use Rattle.gp_grammar.proofs.Building as built
 use Rattle.gp_grammar.proofs.Building.{Builds, BuildsTerm}
 use Rattle.gp_grammar.specs.Grammar as g
@@ -87,7 +78,7 @@ same-sign symbol (Number n) h = cc
 same-sign symbol Big h = cc
 same-sign symbol (Text bytes) h = cc
 
-if-some : (b : Bool) (ts rest : Lexemes) → cond b (Some ts) None ≡ Some rest → (b ≡ true) × (ts ≡ rest)
+pub if-some : (b : Bool) (ts rest : Lexemes) → cond b (Some ts) None ≡ Some rest → (b ≡ true) × (ts ≡ rest)
 if-some true ts rest h = (refl, cc)
 if-some false ts rest h = cc
 

@@ -1,30 +1,21 @@
 -- The texts in a line of UTF-8 are UTF-8, and so is the layout of lexemes with such texts.
-use Rattle.std.proofs.Common.{◌≡◌, ℕ, zero, suc, ◌+◌, ◌<◌, ◌^◌, Bool, true, false, cond, eqb, ltb, leb, nat_eq, List, [], ◌∷◌, ◌++◌, length, take, drop, Option, Some, None, Ok, Err, refl, sym, ap, subst, ◌∙◌, arith, append_assoc, lit≤}
+use Rattle.gp_grammar.proofs.Prelude.{◌≡◌, ℕ, zero, suc, ◌+◌, ◌<◌, Bool, true, false, cond, eqb, ltb, List, [], ◌∷◌, ◌++◌, length, Option, Some, None, Ok, Err, refl, sym, ap, subst, ◌∙◌, arith, append_assoc, is_ascii_control, decimal, AllByRecursion, flat_map, list_all, IsUtf8, digits_value, append-nil, ltb-true, nat_tests, Symbol, Lexeme, Sign, Word, Number, Big, Text, is_lower_letter, is_name_byte, is_name, quoted_byte, spelled, IsProper, AreProper, has_space, Page, empty_page, spaced, put, laid_out, Lexed}
+use Rattle.std.proofs.Common.{◌^◌, leb, nat_eq, take, drop, lit≤}
 use Rattle.std.specs.Prelude.{◌&&◌}
-use Rattle.std.specs.Char.{is_ascii_alphabetic, is_ascii_control, is_ascii_digit}
-use Rattle.std.specs.Fmt.{decimal}
-use Rattle.std.specs.List.{AllByRecursion, flat_map, list_all, prefix_len, starts_with}
+use Rattle.std.specs.Char.{is_ascii_alphabetic, is_ascii_digit}
+use Rattle.std.specs.List.{prefix_len, starts_with}
 use Rattle.std.specs.Option.{option_map, option_map_or}
-use Rattle.std.specs.Str.{IsUtf8, IsAscii}
-use Rattle.std.specs.Str.Parse.{digits_value}
-use Rattle.std.proofs.lemmas.List.{append-nil}
+use Rattle.std.specs.Str.{IsAscii}
 use Rattle.std.proofs.lemmas.Fmt.{IsAscii-decimal}
-use Rattle.std.proofs.lemmas.Bool.{ltb-true}
-use Rattle.std.proofs.lemmas.Bool.Decides.{Decides-eqb, nat_tests}
+use Rattle.std.proofs.lemmas.Bool.Decides.{Decides-eqb}
 use Rattle.std.proofs.lemmas.Slice.Eq.{starts_is}
 use Rattle.std.proofs.lemmas.Str.{IsUtf8-append, IsUtf8-nil, IsUtf8-from_ascii}
 use Rattle.gp_base.specs.declared.name.TheConstants.{MAX_NAME_LENGTH}
-use Rattle.gp_lexer.specs.declared.lexeme.Symbol.{Symbol}
 use Rattle.gp_lexer.specs.declared.lexeme.Symbol.TheVariants as s
-use Rattle.gp_lexer.specs.declared.lexeme.Lexeme.{Lexeme}
-use Rattle.gp_lexer.specs.declared.lexeme.Lexeme.TheVariants.{Symbol as Sign, Word, Number, Big, Text}
 use Rattle.gp_base.specs.declared.text.TheConstants.{MAX_TEXT_LENGTH}
-use Rattle.gp_base.specs.Names.{is_lower_letter, is_name_byte, is_name}
-use Rattle.gp_base.specs.Texts.{quoted_byte}
-use Rattle.gp_lexer.specs.Lexemes.{symbol_text, spelled}
-use Rattle.gp_lexer.specs.ProperLexemes.{IsProper, AreProper}
-use Rattle.gp_lexer.specs.Layout.{has_space, Page, empty_page, spaced, put, written, laid_out}
-use Rattle.gp_lexer.specs.Lexing.{Scanned, Quoted, Lexed, is_word_byte, is_blank, word_lexeme, word_at, number_lexeme, number_at, with_byte, quoted_text, quoted_text_after_quote, text_lexeme, signs, sign_among, sign_at, lexeme_at, with_lexeme, lexed_at, column_of, lexed_from, lexed}
+use Rattle.gp_lexer.specs.Lexemes.{symbol_text}
+use Rattle.gp_lexer.specs.Layout.{written}
+use Rattle.gp_lexer.specs.Lexing.{Scanned, Quoted, is_word_byte, is_blank, word_lexeme, word_at, number_lexeme, number_at, with_byte, quoted_text, quoted_text_after_quote, text_lexeme, signs, sign_among, sign_at, lexeme_at, with_lexeme, lexed_at, column_of, lexed_from, lexed}
 use Rattle.gp_base.proofs.SmallLemmas.{left_true, right_true}
 use Rattle.gp_lexer.proofs.Utf8Lemmas.{after-utf8, cut-utf8}
 

@@ -1,10 +1,6 @@
 -- A sound, complete and local parser reads what the grammar derives, and stops at the place of the fault.
-use Rattle.std.proofs.Common.{◌≡◌, ℕ, suc, [], ◌∷◌, ◌++◌, length, Ok, Err, ◌↔◌, ◌⊎◌, inl, inr, refl, sym, ap, subst, arith, ◌∙◌}
-use Rattle.std.proofs.lemmas.List.{append-nil}
-use Rattle.gp_lexer.specs.declared.lexeme.Lexeme.{Lexeme}
-use Rattle.gp_grammar.specs.Syntax.{Lexemes}
-use Rattle.gp_grammar.specs.Parsing.{Outcome, Parser, ◌>>=◌, ended, whole}
-use Rattle.gp_grammar.specs.Places.{NoneGoesOn, Stops}
+use Rattle.gp_grammar.proofs.Prelude.{◌≡◌, ℕ, suc, [], ◌∷◌, ◌++◌, length, Ok, Err, ◌↔◌, ◌⊎◌, inl, inr, refl, sym, ap, subst, arith, ◌∙◌, append-nil, Lexeme, Lexemes, Outcome, Parser, ◌>>=◌, whole, NoneGoesOn, Stops}
+use Rattle.gp_grammar.specs.Parsing.{ended}
 use Rattle.gp_grammar.proofs.Soundness.{Sound}
 use Rattle.gp_grammar.proofs.Locality.{Local, Same, SameUpTo, Past}
 

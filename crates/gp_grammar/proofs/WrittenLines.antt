@@ -1,22 +1,9 @@
 -- A line of a session with the canonical lexemes of a command is read as this command.
-use Rattle.std.proofs.Common.{◌≡◌, ℕ, ◌≤◌, List, ◌∷◌, length, Some, None, Ok, Err, refl, ap, ◌∙◌}
+use Rattle.gp_grammar.proofs.Prelude.{◌≡◌, ℕ, ◌≤◌, List, ◌∷◌, length, Some, None, Ok, Err, refl, ap, ◌∙◌, result_ok, IsUtf8, Sign, Word, lexemes_of, Lexed, lexed, AreProper, MAX_LINE_LENGTH, command_lexemes, capped_line, IsCommand, IsScriptLine, session_of, script_line, command_shape, line_shape, passed_limit, script_line_of, Bytes, Command, Lexemes}
 use Rattle.std.specs.Option.{option_map}
-use Rattle.std.specs.Result.{result_ok}
-use Rattle.std.specs.Str.{IsUtf8}
-use Rattle.gp_lexer.specs.declared.lexeme.Lexeme.TheVariants.{Symbol as Sign, Word}
 use Rattle.gp_lexer.specs.declared.lexeme.Symbol.TheVariants as s
-use Rattle.gp_lexer.specs.LexResults.{lexemes_of}
-use Rattle.gp_lexer.specs.Lexing.{Lexed, lexed}
-use Rattle.gp_lexer.specs.ProperLexemes.{AreProper, HaveUtf8Texts}
-use Rattle.gp_grammar.specs.declared.limits.TheConstants.{MAX_LINE_LENGTH}
-use Rattle.gp_grammar.specs.Canonical.{command_lexemes}
-use Rattle.gp_grammar.specs.Capping.{capped_line}
+use Rattle.gp_lexer.specs.ProperLexemes.{HaveUtf8Texts}
 use Rattle.gp_grammar.specs.CommandGrammar as g
-use Rattle.gp_grammar.specs.CommandGrammar.{IsCommand, IsScriptLine, session_of}
-use Rattle.gp_grammar.specs.CommandParsing.{script_line}
-use Rattle.gp_grammar.specs.Limits.{command_shape, line_shape, passed_limit}
-use Rattle.gp_grammar.specs.Reading.{script_line_of}
-use Rattle.gp_grammar.specs.Syntax.{Bytes, Command, Lexemes}
 use Rattle.gp_grammar.proofs.CanonicalCommandDepth.{command-shallow}
 use Rattle.gp_grammar.proofs.LineLaws.{lines-read}
 use Rattle.gp_grammar.proofs.ParserLaws.{lawful-line}

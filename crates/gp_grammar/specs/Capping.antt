@@ -79,16 +79,9 @@ capped_side (y.as_is subject) = y.as_is subject
 capped_side (y.changed changes subject) = y.changed (map capped_change changes) subject
 
 abbrev pub capped_question : Question → Question
-capped_question y.transactions = y.transactions
-capped_question (y.log t) = y.log t
-capped_question (y.versions table) = y.versions table
-capped_question (y.changes t k) = y.changes t k
-capped_question (y.commit_changes t) = y.commit_changes t
-capped_question (y.conflicts t) = y.conflicts t
+capped_question (y.bare question) = y.bare question
 capped_question (y.history table cond) = y.history table (option_map capped cond)
 capped_question (y.when query) = y.when (map capped_block query)
-capped_question y.serial = y.serial
-capped_question y.check = y.check
 capped_question (y.diff first second query) = y.diff (capped_side first) (capped_side second) (map capped_block query)
 capped_question (y.causes subject query) = y.causes subject (map capped_block query)
 capped_question (y.ask subject query) = y.ask subject (map capped_block query)

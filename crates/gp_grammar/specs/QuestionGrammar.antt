@@ -10,7 +10,7 @@ use Rattle.gp_grammar.specs.declared.token_kind.TokenKind.{TokenKind}
 use Rattle.gp_grammar.specs.declared.token_kind.TokenKind.TheVariants as token
 use Rattle.gp_grammar.specs.declared.limits.TheConstants.{MAX_PATTERN_NUMBER}
 use Rattle.gp_grammar.specs.Syntax as y
-use Rattle.gp_grammar.specs.Syntax.{Lexemes, Bytes, Term, Command, Point, Pattern, Rule, rule_of, Rules, How, Query, LogChange, Subject, Side, Question}
+use Rattle.gp_grammar.specs.Syntax.{Lexemes, Bytes, Term, Command, Point, Pattern, Rule, rule_of, Rules, How, Query, LogChange, Subject, Side, BareQuestion, Question}
 use Rattle.gp_grammar.specs.CommandGrammar.{IsList, comma, IsWhere, IsQuery, IsStatement, Closed, is_number_without_zero}
 
 pub data IsPoint : Lexemes → Point → Type 0 where
@@ -114,18 +114,21 @@ pub data IsSide : Lexemes → Side → Type 0 where
   changed : (a b : Lexemes) (changes : List LogChange) (subject : Subject) → IsChanges a changes → IsSideSubject b subject
       → IsSide (Word (codes "whatif") ∷ (a ++ (Word (codes "of") ∷ b))) (y.changed changes subject)
 
+pub data IsBareQuestion : Lexemes → BareQuestion → Type 0 where
+  transactions : IsBareQuestion (Word (codes "transactions") ∷ []) y.transactions
+  log : (t : ℕ) → IsBareQuestion (Word (codes "log") ∷ Number t ∷ []) (y.log t)
+  versions : (table : Bytes) → IsBareQuestion (Word (codes "versions") ∷ Word (codes "of") ∷ Word table ∷ []) (y.versions table)
+  changes : (t k : ℕ) → IsBareQuestion (Word (codes "changes") ∷ Number t ∷ Number k ∷ []) (y.changes t k)
+  commit_changes : (t : ℕ) → IsBareQuestion (Word (codes "changes") ∷ Number t ∷ Sign s.Commit ∷ []) (y.commit_changes t)
+  conflicts : (t : ℕ) → IsBareQuestion (Word (codes "conflicts") ∷ Number t ∷ []) (y.conflicts t)
+  serial : IsBareQuestion (Word (codes "serial") ∷ []) y.serial
+  check : IsBareQuestion (Word (codes "check") ∷ []) y.check
+
 pub data IsOpenQuestion : Lexemes → Question → Type 0 where
-  transactions : IsOpenQuestion (Word (codes "transactions") ∷ []) y.transactions
-  log : (t : ℕ) → IsOpenQuestion (Word (codes "log") ∷ Number t ∷ []) (y.log t)
-  versions : (table : Bytes) → IsOpenQuestion (Word (codes "versions") ∷ Word (codes "of") ∷ Word table ∷ []) (y.versions table)
-  changes : (t k : ℕ) → IsOpenQuestion (Word (codes "changes") ∷ Number t ∷ Number k ∷ []) (y.changes t k)
-  commit_changes : (t : ℕ) → IsOpenQuestion (Word (codes "changes") ∷ Number t ∷ Sign s.Commit ∷ []) (y.commit_changes t)
-  conflicts : (t : ℕ) → IsOpenQuestion (Word (codes "conflicts") ∷ Number t ∷ []) (y.conflicts t)
+  bare : (a : Lexemes) (question : BareQuestion) → IsBareQuestion a question → IsOpenQuestion a (y.bare question)
   history : (table : Bytes) (a : Lexemes) (cond : Option Term) → IsWhere a cond
       → IsOpenQuestion (Word (codes "history") ∷ Word (codes "of") ∷ Word table ∷ a) (y.history table cond)
   when : (a : Lexemes) (query : Query) → IsQuery a query → IsOpenQuestion (Sign s.When ∷ a) (y.when query)
-  serial : IsOpenQuestion (Word (codes "serial") ∷ []) y.serial
-  check : IsOpenQuestion (Word (codes "check") ∷ []) y.check
   diff : (a b c : Lexemes) (first second : Side) (query : Query) → IsSide a first → IsSide b second → IsQuery c query
       → IsOpenQuestion (Word (codes "diff") ∷ (a ++ (Word (codes "to") ∷ (b ++ c)))) (y.diff first second query)
   causes : (a b : Lexemes) (subject : Subject) (query : Query) → IsKept a subject → IsQuery b query

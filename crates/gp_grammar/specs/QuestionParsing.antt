@@ -204,7 +204,7 @@ unfoldable pub explained_saw : Parser Question
 explained_saw ts = saw_numbers ts >>= (λ n. query n.1 >>= (λ query. Ok (y.explain_saw n.0.0 n.0.1 query.0, query.1)))
 
 unfoldable pub changes : Parser Question
-changes ts = number ts >>= (λ t. where_next s.Commit (accept (y.commit_changes t.0)) (λ rest. number rest >>= (λ k. Ok (y.changes t.0 k.0, k.1))) t.1)
+changes ts = number ts >>= (λ t. where_next s.Commit (accept (y.bare (y.commit_changes t.0))) (λ rest. number rest >>= (λ k. Ok (y.bare (y.changes t.0 k.0), k.1))) t.1)
 
 -- after HISTORY OF
 unfoldable pub history : Parser Question
@@ -227,7 +227,7 @@ unfoldable pub diff : Parser Question
 diff ts = side ts >>= (λ first. expect_word (codes "to") (second_side first.0) first.1)
 
 abbrev pub versions_of : Parser Question
-versions_of = expect_word (codes "of") (λ ts. identifier ts >>= (λ table. Ok (y.versions table.0, table.1)))
+versions_of = expect_word (codes "of") (λ ts. identifier ts >>= (λ table. Ok (y.bare (y.versions table.0), table.1)))
 
 -- a question, by its first word; each of these takes what the words before it do not
 abbrev pub from_explain : Parser Question
@@ -243,10 +243,10 @@ abbrev pub from_diff : Parser Question
 from_diff = where_word (codes "diff") diff from_causes
 
 abbrev pub from_check : Parser Question
-from_check = where_word (codes "check") (accept y.check) from_diff
+from_check = where_word (codes "check") (accept (y.bare y.check)) from_diff
 
 abbrev pub from_serial : Parser Question
-from_serial = where_word (codes "serial") (accept y.serial) from_check
+from_serial = where_word (codes "serial") (accept (y.bare y.serial)) from_check
 
 abbrev pub from_when : Parser Question
 from_when = where_next s.When when from_serial
@@ -255,19 +255,19 @@ abbrev pub from_history : Parser Question
 from_history = where_word (codes "history") (expect_word (codes "of") history) from_when
 
 abbrev pub from_conflicts : Parser Question
-from_conflicts = where_word (codes "conflicts") (λ ts. number ts >>= (λ t. Ok (y.conflicts t.0, t.1))) from_history
+from_conflicts = where_word (codes "conflicts") (λ ts. number ts >>= (λ t. Ok (y.bare (y.conflicts t.0), t.1))) from_history
 
 abbrev pub from_changes : Parser Question
 from_changes = where_word (codes "changes") changes from_conflicts
 
 abbrev pub from_transactions : Parser Question
-from_transactions = where_word (codes "transactions") (accept y.transactions) from_changes
+from_transactions = where_word (codes "transactions") (accept (y.bare y.transactions)) from_changes
 
 abbrev pub from_versions : Parser Question
 from_versions = where_word (codes "versions") versions_of from_transactions
 
 unfoldable pub open_question : Parser Question
-open_question = where_word (codes "log") (λ ts. number ts >>= (λ t. Ok (y.log t.0, t.1))) from_versions
+open_question = where_word (codes "log") (λ ts. number ts >>= (λ t. Ok (y.bare (y.log t.0), t.1))) from_versions
 
 abbrev pub question : Parser Question
 question = closed open_question

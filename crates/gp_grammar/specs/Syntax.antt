@@ -128,22 +128,24 @@ pub data Side : Type 0 where
   as_is : Subject → Side
   changed : List LogChange → Subject → Side
 
--- A question. `changes` and `commit_changes` ask for the rows that a statement or a commit changed, `conflicts` for those on which a transaction met
--- others, `history` for what changed the rows of a table on which a condition is true, `when` for the versions in which each row of a query is there,
--- `serial` whether the transactions could have run one after another, `check` whether the dump is that of a history, `diff` for the difference between the
--- rows of two sides, `causes` for the statements without which the rows would be others. `what_if` asks of the history that there would be with some
--- changes, made one after another. `explain_saw` asks for the query that computes what a transaction saw.
+-- A question without terms. `changes` and `commit_changes` ask for the rows that a statement or a commit changed, `conflicts` for those on which a
+-- transaction met others, `serial` whether the transactions could have run one after another, `check` whether the dump is that of a history.
+pub data BareQuestion : Type 0 where
+  transactions : BareQuestion
+  log : ℕ → BareQuestion
+  versions : Bytes → BareQuestion
+  changes : ℕ → ℕ → BareQuestion
+  commit_changes : ℕ → BareQuestion
+  conflicts : ℕ → BareQuestion
+  serial check : BareQuestion
+
+-- A question. `history` asks for what changed the rows of a table on which a condition is true, `when` for the versions in which each row of a query is
+-- there, `diff` for the difference between the rows of two sides, `causes` for the statements without which the rows would be others. `what_if` asks of the
+-- history that there would be with some changes, made one after another. `explain_saw` asks for the query that computes what a transaction saw.
 pub data Question : Type 0 where
-  transactions : Question
-  log : ℕ → Question
-  versions : Bytes → Question
-  changes : ℕ → ℕ → Question
-  commit_changes : ℕ → Question
-  conflicts : ℕ → Question
+  bare : BareQuestion → Question
   history : Bytes → Option Term → Question
   when : Query → Question
-  serial : Question
-  check : Question
   diff : Side → Side → Query → Question
   causes : Subject → Query → Question
   ask : Subject → Query → Question

@@ -104,16 +104,16 @@ side_view (side.AsIs subject) = y.as_is (subject_view subject)
 side_view (side.Changed changes subject) = y.changed (changes_view changes) (subject_view subject)
 
 abbrev pub question_view : Question → y.Question
-question_view q.Transactions = y.transactions
-question_view (q.Log t) = y.log t
-question_view (q.Versions table) = y.versions table
-question_view (q.Changes t k) = y.changes t k
-question_view (q.CommitChanges t) = y.commit_changes t
-question_view (q.Conflicts t) = y.conflicts t
+question_view q.Transactions = y.bare y.transactions
+question_view (q.Log t) = y.bare (y.log t)
+question_view (q.Versions table) = y.bare (y.versions table)
+question_view (q.Changes t k) = y.bare (y.changes t k)
+question_view (q.CommitChanges t) = y.bare (y.commit_changes t)
+question_view (q.Conflicts t) = y.bare (y.conflicts t)
 question_view (q.History table cond) = y.history table (condition_view cond)
 question_view (q.When query) = y.when (query_view query)
-question_view q.Serial = y.serial
-question_view q.Check = y.check
+question_view q.Serial = y.bare y.serial
+question_view q.Check = y.bare y.check
 question_view (q.Diff first second query) = y.diff (side_view first) (side_view second) (query_view query)
 question_view (q.Causes subject query) = y.causes (subject_view subject) (query_view query)
 question_view (q.Ask subject query) = y.ask (subject_view subject) (query_view query)

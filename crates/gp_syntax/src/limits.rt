@@ -447,16 +447,8 @@ pub(crate) fn question_limit(question: &Question) -> Option<Limit>
     ensures { result ≡ option_map limit_of (passed_limit (question_shape (question_view question.now))) }
 {
     match question {
-        Question::Transactions => None,
-        Question::Log { .. } => None,
-        Question::Versions { .. } => None,
-        Question::Changes { .. } => None,
-        Question::CommitChanges { .. } => None,
-        Question::Conflicts { .. } => None,
         Question::History { cond, .. } => condition_limit(cond),
         Question::When { query } => query_limit(query),
-        Question::Serial => None,
-        Question::Check => None,
         Question::Diff {
             first,
             second,
@@ -466,5 +458,6 @@ pub(crate) fn question_limit(question: &Question) -> Option<Limit>
         Question::Ask { query, .. } => query_limit(query),
         Question::WhatIf { changes, query, .. } => what_if_limit(changes.as_slice(), query),
         Question::ExplainSaw { query, .. } => query_limit(query),
+        _ => None,
     }
 }

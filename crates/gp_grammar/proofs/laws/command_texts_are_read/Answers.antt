@@ -1,7 +1,4 @@
-use Rattle.gp_grammar.specs.CommandParsing.{command}
-use Rattle.gp_grammar.specs.CommandGrammar.{IsCommand}
-use Rattle.gp_grammar.specs.Capping.{capped_command}
-use Rattle.gp_grammar.specs.Limits.{command_shape}
+use Rattle.gp_grammar.proofs.Prelude.{command, IsCommand, capped_command, command_shape}
 use Rattle.gp_grammar.proofs.LineLaws as line
 use Rattle.gp_grammar.proofs.ParserLaws.{lawful-command}
 use Rattle.gp_grammar.proofs.ShapeLemmas.{commands-fair}

@@ -1,7 +1,4 @@
-use Rattle.gp_grammar.specs.QuestionParsing.{question}
-use Rattle.gp_grammar.specs.QuestionGrammar.{IsQuestion}
-use Rattle.gp_grammar.specs.Capping.{capped_question}
-use Rattle.gp_grammar.specs.Limits.{question_shape}
+use Rattle.gp_grammar.proofs.Prelude.{question, IsQuestion, capped_question, question_shape}
 use Rattle.gp_grammar.proofs.LineLaws as line
 use Rattle.gp_grammar.proofs.ParserLaws.{lawful-question}
 use Rattle.gp_grammar.proofs.ShapeLemmas.{questions-fair}

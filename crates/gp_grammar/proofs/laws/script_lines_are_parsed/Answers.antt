@@ -1,7 +1,4 @@
-use Rattle.gp_grammar.specs.CommandParsing.{script_line}
-use Rattle.gp_grammar.specs.CommandGrammar.{IsScriptLine}
-use Rattle.gp_grammar.specs.Capping.{capped_line}
-use Rattle.gp_grammar.specs.Limits.{line_shape}
+use Rattle.gp_grammar.proofs.Prelude.{script_line, IsScriptLine, capped_line, line_shape}
 use Rattle.gp_grammar.proofs.LineLaws as line
 use Rattle.gp_grammar.proofs.ParserLaws.{lawful-line}
 use Rattle.gp_grammar.proofs.ShapeLemmas.{lines-fair}

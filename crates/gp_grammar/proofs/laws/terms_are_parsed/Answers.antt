@@ -1,7 +1,4 @@
-use Rattle.gp_grammar.specs.Parsing.{term}
-use Rattle.gp_grammar.specs.Grammar.{IsTerm}
-use Rattle.gp_grammar.specs.Capping.{capped}
-use Rattle.gp_grammar.specs.Laws.{term_shape}
+use Rattle.gp_grammar.proofs.Prelude.{term, IsTerm, capped, term_shape}
 use Rattle.gp_grammar.proofs.LineLaws as line
 use Rattle.gp_grammar.proofs.ParserLaws.{lawful-term}
 use Rattle.gp_grammar.proofs.ShapeLemmas.{terms-fair}
