@@ -10,10 +10,12 @@ pub mod InputLemmas
 pub mod JoinLemmas
 pub mod JoiningLemmas
 pub mod CellLemmas
+pub mod PastLemmas
 pub mod ProductLemmas
 pub mod ProgramLemmas
 pub mod PublishingLemmas
 pub mod RelationLemmas
+pub mod SelectingLemmas
 pub mod StepLemmas
 pub mod SteppingLemmas
 pub mod WritingLemmas

@@ -7,9 +7,11 @@ pub mod Joining
 pub mod Joins
 pub mod Keys
 pub mod Liveness
+pub mod PastRows
 pub mod PendingRows
 pub mod Products
 pub mod Publishing
 pub mod Running
 pub mod Search
+pub mod Selecting
 pub mod Stepping

@@ -1,16 +1,18 @@
 //! What runs plain programs.
 
-ghost use Rattle.std.specs.Prelude.{◌≡◌, true};
+ghost use Rattle.std.specs.Prelude.{◌≡◌, true, map};
 ghost use Rattle.gp_algebra.specs.PlainViews.{program_view};
 ghost use Rattle.gp_algebra.specs.Plain.{PlainEnvironment, PlainProgram};
 ghost use Rattle.gp_algebra.specs.WellBuilt.{is_well_built};
 ghost use Rattle.gp_exec.specs.Backends.{Given, IsGiven, KeepsUserCells, StopsAtStep};
+ghost use Rattle.gp_exec.specs.PastRows.{IsGivenIfSome, past_row};
 ghost use Rattle.gp_exec.specs.Running.{environment_view};
 
 use crate::env::Env;
 use crate::error::ExecStop;
+use crate::past_rows::{PastRow, run_past};
 use crate::program::run;
-use gp_algebra::PProgram;
+use gp_algebra::{PProgram, ScanAt};
 use gp_base::Row;
 use std::alloc::Global;
 
@@ -27,6 +29,23 @@ pub trait Backend {
         ensures cells { KeepsUserCells (λ rows. rows.items) result
             (program_view program.now) (environment_view env.now) }
         ensures steps { StopsAtStep result (program_view program.now) };
+
+    /// The rows of a program over the rows of one table in one version, where they lie, or the reason why there are none; None if
+    /// this backend does not run the program so. The program is well built, and scans nothing else.
+    fn run_past(
+        &self,
+        _alloc: Global,
+        program: &PProgram,
+        at: ScanAt,
+        rows: &[PastRow<'_>],
+    ) -> Result<Option<Vec<Row>>, ExecStop>
+        requires { is_well_built (program_view program.now) ≡ true }
+        ensures { (env : PlainEnvironment) → env at.version at.table ≡ map past_row rows.now
+            → IsGivenIfSome (λ rows. rows.items) (gives self.now) result
+            (program_view program.now) env }
+    {
+        Ok(None)
+    }
 }
 
 /// The executor of this crate: its rows are those of [`run`].
@@ -40,5 +59,15 @@ impl Backend for Plain {
 
     fn run(&self, alloc: Global, program: &PProgram, env: &Env) -> Result<Vec<Row>, ExecStop> {
         run(alloc, program, env)
+    }
+
+    fn run_past(
+        &self,
+        alloc: Global,
+        program: &PProgram,
+        at: ScanAt,
+        rows: &[PastRow<'_>],
+    ) -> Result<Option<Vec<Row>>, ExecStop> {
+        run_past(alloc, program, at, rows)
     }
 }

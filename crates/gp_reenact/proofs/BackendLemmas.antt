@@ -19,6 +19,7 @@ use Rattle.gp_algebra.specs.Stops.{program_stop}
 use Rattle.gp_base.proofs.Permutations.{permuted, unpermuted}
 use Rattle.gp_algebra.proofs.PlainBags.{program_meaning_same, program_stop_same}
 use Rattle.gp_exec.specs.Backends.{Executes, Given, IsGiven}
+use Rattle.gp_exec.specs.PastRows.{IsGivenIfSome}
 use Rattle.gp_exec.specs.declared.error.ExecStop.{ExecStop}
 use Rattle.gp_exec.specs.declared.error.ExecStop.TheVariants as exec
 use Rattle.gp_base.specs.declared.limit.TheConstants.{MAX_ANSWER_ROWS, MAX_TABLE_ROWS}
@@ -30,7 +31,7 @@ use Rattle.gp_machine.specs.Questions.{answer_refusal, given, log_refusal, own_s
 use Rattle.gp_reenact.specs.Encoding as travel
 use Rattle.gp_reenact.specs.Travel as travels
 use Rattle.gp_versions.specs.Spans.{Versions}
-use Rattle.gp_reenact.specs.Backends.{GivesOver, IsGivenOver, ReenactsBy, RefusedBy}
+use Rattle.gp_reenact.specs.Backends.{GivesOver, GivesOverIfSome, IsGivenOver, ReenactsBy, RefusedBy}
 use Rattle.gp_base.specs.declared.stop.Stop.{Stop}
 use Rattle.gp_base.specs.declared.stop.Stop.TheVariants.{Refused, NoMemory}
 use Rattle.gp_reenact.specs.Reenacting.{Reenacts, RunsOver, spans_of, stopped, transaction_at}
@@ -49,6 +50,20 @@ module _ {X : Type 0} (view : X → List (List Cell)) (gives : PlainProgram → 
   gives_over (Err (exec.Ancestry j)) is = record { env = env; same = same_rows; given = is }
   gives_over (Err exec.Answer) is = record { env = env; same = same_rows; given = is }
   gives_over (Err exec.NoMemory) is = tt
+
+-- ---- over the past versions themselves
+
+module _ {X : Type 0} (view : X → List (List Cell)) (gives : PlainProgram → PlainEnvironment → Given → Type 0) (program : PlainProgram) (past : PlainEnvironment) where
+  own_rows : HaveSameRowsOn (program_scans program) past past
+  own_rows at among = IsPermutation-refl (past at.version at.table)
+
+  pub past_gives : (result : Result (Option X) ExecStop) → IsGivenIfSome view gives result program past → GivesOverIfSome view gives result program past
+  past_gives (Ok (Some found)) is = record { env = past; same = own_rows; given = is }
+  past_gives (Ok None) is = tt
+  past_gives (Err (exec.Rows j)) is = record { env = past; same = own_rows; given = is }
+  past_gives (Err (exec.Ancestry j)) is = record { env = past; same = own_rows; given = is }
+  past_gives (Err exec.Answer) is = record { env = past; same = own_rows; given = is }
+  past_gives (Err exec.NoMemory) is = tt
 
 -- a stop of the program as a refusal
 pub stop_refused : {X : Type 0} (view : X → List (List Cell)) (gives : PlainProgram → PlainEnvironment → Given → Type 0) (expected : Option Refusal) (t : ℕ) (program : PlainProgram) (past : PlainEnvironment)

@@ -26,6 +26,12 @@ GivesOver view gives (Err (exec.Ancestry j)) program past = IsGivenOver gives pr
 GivesOver view gives (Err exec.Answer) program past = IsGivenOver gives program past (Err exec.Answer)
 GivesOver view gives (Err exec.NoMemory) program past = Unit {0}
 
+-- likewise, where there is an answer; that there is none says nothing
+abbrev pub GivesOverIfSome : {X : Type 0} → (X → List (List Cell)) → (PlainProgram → PlainEnvironment → Given → Type 0) → Result (Option X) ExecStop → PlainProgram → PlainEnvironment → Type 0
+GivesOverIfSome view gives (Ok (Some found)) program past = GivesOver view gives (Ok found) program past
+GivesOverIfSome view gives (Ok None) program past = Unit {0}
+GivesOverIfSome {X} view gives (Err stop) program past = GivesOver {X = X} view gives (Err stop) program past
+
 -- a refusal that is the stop of a program of transaction t
 pub record IsStop (gives : PlainProgram → PlainEnvironment → Given → Type 0) (refusal : Refusal) (t : ℕ) (program : PlainProgram) (past : PlainEnvironment) : Type 0 where
   pub stop : ExecStop

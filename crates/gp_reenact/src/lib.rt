@@ -4,7 +4,8 @@
 //! In reading order: [`log_refusal`] says whether a log has a state, and [`reenact`] gives the rows of a query over it: a version,
 //! what a transaction saw after one of its statements, or what its commit published. [`planned`] composes the statements of the
 //! transaction into a program ([`gp_compose`]), makes that a plain one ([`gp_prov`]) and merges it ([`gp_merge`]); a backend
-//! ([`reenact_by`]), as the executor ([`gp_exec`]), runs it over the rows of past versions ([`env_at`]).
+//! ([`reenact_by`]), as the executor ([`gp_exec`]), runs it over the rows of past versions: over copies of them ([`env_at`]), or where
+//! they lie if the program is one scan of one version and no steps.
 //!
 //! A plain program reads tables in versions, and its rows have columns for what SQL does not show: the cells of a table's row, then the
 //! row's identity, then the mark NO, as no running transaction has written it. [`env_at`] takes them from the row versions of all
@@ -26,6 +27,7 @@ mod encoding;
 mod env;
 mod laws;
 mod looking;
+mod past;
 mod replay;
 mod scan_laws;
 

@@ -1,11 +1,13 @@
 //! Programs of states, run over past versions.
 
-ghost use Rattle.std.specs.Prelude.{◌≡◌, true, false, None};
+ghost use Rattle.std.specs.Prelude.{◌≡◌, true, false, Contains, None};
 ghost use Rattle.gp_base.specs.Annotated.{unannotated};
 ghost use Rattle.gp_syntax.specs.Views.{point_view};
 ghost use Rattle.gp_algebra.specs.Statements.{width_of};
 ghost use Rattle.gp_algebra.specs.PlainViews.{program_view};
+ghost use Rattle.gp_algebra.specs.declared.plain.ScanAt.{ScanAt};
 ghost use Rattle.gp_algebra.specs.QueryViews.{annotated_program_view};
+ghost use Rattle.gp_algebra.specs.Scans.{program_scans};
 ghost use Rattle.gp_algebra.specs.Views.{select_view};
 ghost use Rattle.gp_algebra.specs.WellBuilt.{is_well_built};
 ghost use Rattle.gp_compose.specs.Composing.{QueryFits};
@@ -18,13 +20,14 @@ ghost use Rattle.gp_merge.specs.Merging.{merged};
 ghost use Rattle.gp_prov.specs.ToPlain as to;
 ghost use Rattle.gp_reenact.specs.Encoding.{encoded};
 ghost use Rattle.gp_reenact.specs.Travel.{past_environment};
-ghost use Rattle.gp_reenact.specs.Backends.{GivesOver, ReenactsBy};
+ghost use Rattle.gp_reenact.specs.Backends.{GivesOver, GivesOverIfSome, ReenactsBy};
 ghost use Rattle.gp_reenact.specs.Reenacting as r;
 ghost use Rattle.gp_reenact.specs.Reenacting.{Plans, Reenacts, spans_of};
 ghost use Rattle.gp_reenact.specs.Programs.{merged_at};
 
 use crate::env::env_at;
-use gp_algebra::{AProgram, PProgram, Select, scans};
+use crate::past::past_rows;
+use gp_algebra::{AProgram, PProgram, ScanAt, Select, scans};
 use gp_base::{Refusal, Row, Stop};
 use gp_compose::{check_state, program};
 use gp_exec::{Backend, ExecStop, Plain};
@@ -46,6 +49,44 @@ pub fn log_refusal(log: &Log, state: Point) -> Option<Refusal>
     }
 }
 
+/// The rows of a program over past versions, as the backend gives them over copies of the rows of these scans.
+fn rows_in_env<B: Backend>(
+    alloc: Global,
+    versions: &[VersionTable],
+    asked: &[ScanAt],
+    program: &PProgram,
+    backend: &B,
+) -> Result<Vec<Row>, ExecStop>
+    requires built { is_well_built (program_view program.now) ≡ true }
+    requires asked { (scan : ScanAt) → Contains (program_scans (program_view program.now)) scan
+        → Contains asked.now scan }
+    ensures { GivesOver (λ found. found.items) (B.gives backend.now) result
+        (program_view program.now) (encoded (past_environment unannotated versions.now)) }
+{
+    let env = env_at(alloc, versions, asked)?;
+    backend.run(alloc, program, &env)
+}
+
+/// The rows of a program over past versions, as the backend gives them over rows where they lie. None if it does not run the
+/// program so, or the program scans more than one table or version.
+fn rows_lying<B: Backend>(
+    alloc: Global,
+    versions: &[VersionTable],
+    asked: &[ScanAt],
+    program: &PProgram,
+    backend: &B,
+) -> Result<Option<Vec<Row>>, ExecStop>
+    requires { is_well_built (program_view program.now) ≡ true }
+    ensures { GivesOverIfSome (λ found. found.items) (B.gives backend.now) result
+        (program_view program.now) (encoded (past_environment unannotated versions.now)) }
+{
+    let [at] = asked else {
+        return Ok(None);
+    };
+    let rows = past_rows(alloc, versions, *at)?;
+    backend.run_past(alloc, program, *at, &rows)
+}
+
 /// The rows of a program over past versions, as the backend gives them.
 pub(crate) fn rows_over<B: Backend>(
     alloc: Global,
@@ -58,8 +99,11 @@ pub(crate) fn rows_over<B: Backend>(
         (program_view program.now) (encoded (past_environment unannotated versions.now)) }
 {
     let asked = scans(alloc, program)?;
-    let env = env_at(alloc, versions, &asked)?;
-    backend.run(alloc, program, &env)
+    match rows_lying(alloc, versions, &asked, program, backend) {
+        Ok(Some(rows)) => Ok(rows),
+        Ok(None) => rows_in_env(alloc, versions, &asked, program, backend),
+        Err(stop) => Err(stop),
+    }
 }
 
 /// The transaction of a state that the log has, or 0 for a version.
