@@ -1,14 +1,14 @@
 -- What becomes of a table, from the rows that its program gave.
-use Rattle.std.proofs.Common.{◌≡◌, ℕ, zero, suc, ◌<◌, ◌==◌, true, false, List, sym, ap, ◌∙◌, Option, None, Result, Ok, Err}
+use Rattle.std.proofs.Common.{◌≡◌, ℕ, zero, suc, ◌<◌, ◌==◌, true, false, List, sym, ap, ◌∙◌, Option, None, Some, Result, Ok, Err}
 use Rattle.std.specs.BTreeMap.{BTreeMap}
 use Rattle.std.specs.List.{list_any}
 use Rattle.std.specs.Prelude.{◌&&◌, not}
 use Rattle.std.proofs.lemmas.Bool.{and_parts}
-use Rattle.gp_algebra.specs.AnnotatedQueries as q
-use Rattle.gp_algebra.specs.Statements.{width_of}
+use Rattle.gp_algebra.specs.Statements.{Statement, width_of}
 use Rattle.gp_base.specs.declared.limit.TheConstants.{MAX_TABLE_ROWS}
 use Rattle.gp_base.specs.Annotated.{Annotated, Annotations}
 use Rattle.gp_base.specs.Identities.{Identity}
+use Rattle.gp_compose.specs.Composed.{writes}
 use Rattle.gp_compose.specs.Composing.{published_table}
 use Rattle.gp_exec.specs.declared.error.ExecStop.{ExecStop}
 use Rattle.gp_exec.specs.declared.error.ExecStop.TheVariants as exec
@@ -19,19 +19,19 @@ use Rattle.gp_reenact.specs.Reenacting.{spans_of}
 use Rattle.gp_versions.specs.declared.span.Span.{Span}
 use Rattle.gp_versions.specs.Spans.{Versions}
 use Rattle.gp_versions.specs.TableSpans.{AreWhole, NoOverlap}
-use Rattle.gp_history.specs.Changes.{ChangesTable, FindsRows, Publishes, is_scan, is_touched, made, maker, maker_program, stopped}
+use Rattle.gp_history.specs.Changes.{ChangesTable, FindsRows, Publishes, is_touched, made, maker, maker_program, stopped}
 use Rattle.gp_history.specs.Images.{IsImage}
-use Rattle.gp_history.specs.Narrowing.{IsNarrow, narrow_spans}
+use Rattle.gp_history.specs.Narrowing.{IsNarrow, narrow_spans, statements_upto}
 use Rattle.gp_history.specs.Sound.{IsSound}
 use Rattle.gp_history.specs.SpanAnnotations.{AreAnnotated}
 use Rattle.gp_history.specs.declared.error.HistoryStop.{HistoryStop}
 use Rattle.gp_history.specs.declared.narrowed.Narrowed.{Narrowed}
 use Rattle.gp_history.proofs.CommitLemmas.{rows_change}
-use Rattle.gp_history.proofs.ImageLemmas.{scan_is}
 use Rattle.gp_history.proofs.MakerLemmas.{maker_positive, maker_version}
 use Rattle.gp_history.proofs.NarrowedChange.{narrow_change}
 use Rattle.gp_history.proofs.NarrowingLemmas.{all_leave, all_room, begun_away, few_fit, finds_all, kept, kept_unmarked, narrows, not_own, stays, touched_all}
 use Rattle.gp_history.proofs.NarrowLemmas.{not_false}
+use Rattle.gp_history.proofs.SeekingLemmas.{unwritten-all}
 
 -- the program that the log asks for is the one of the commit that makes the version
 module _ (entries : List Entry) (versions : List Versions) (sound : IsSound entries versions) (before : ℕ) (within : before < versions_in entries) (table : ℕ) where
@@ -55,11 +55,10 @@ module _ {M : Type 0} (domain : Annotations M) (image : IsImage domain) (entries
   log = log_of entries
 
   -- a table that needs no look
-  pub kept_change : is_scan (maker_program entries before table).last ≡ true → list_any (is_touched (suc before)) (spans table) ≡ false → ChangesTable domain log spans before table (Ok None)
-  kept_change scans untouched = record {
-    unwritten =
-        scan_is domain image entries spans spans sound.statements sound.spans before (t entries versions sound before within table) before table
-        (ap (λ (program : q.Program). is_scan program.last) (sym (program_same entries versions sound before within table)) ∙ scans);
+  pub kept_change : list_any (λ statement. writes (Some statement) table) (statements_upto log (maker log before) (log.statement_count (maker log before))) ≡ false → list_any (is_touched (suc before)) (spans table) ≡ false
+      → ChangesTable domain log spans before table (Ok None)
+  kept_change unwritten untouched = record {
+    unwritten = unwritten-all log (maker log before) (log.statement_count (maker log before)) table unwritten;
     untouched = untouched;
   }
 
@@ -76,10 +75,11 @@ module _ {M : Type 0} (domain : Annotations M) (image : IsImage domain) (entries
     whole place = (narrow place).whole
 
     -- a table that needs no look, by the row versions that matter
-    pub kept_few : (is_scan (maker_program entries before table).last && not (list_any (is_touched (suc before)) (narrow_spans narrowed table))) ≡ true → ChangesTable domain log spans before table (Ok None)
-    kept_few same =
-        let parts = and_parts (is_scan (maker_program entries before table).last) (not (list_any (is_touched (suc before)) (narrow_spans narrowed table))) same in
-        kept_change parts.0
+    pub kept_few : (statements : List Statement) → statements ≡ statements_upto log (maker log before) (log.statement_count (maker log before))
+        → (not (list_any (λ statement. writes (Some statement) table) statements) && not (list_any (is_touched (suc before)) (narrow_spans narrowed table))) ≡ true → ChangesTable domain log spans before table (Ok None)
+    kept_few statements are_statements same =
+        let parts = and_parts (not (list_any (λ statement. writes (Some statement) table) statements)) (not (list_any (is_touched (suc before)) (narrow_spans narrowed table))) same in
+        kept_change (ap (list_any (λ statement. writes (Some statement) table)) (sym are_statements) ∙ not_false (list_any (λ statement. writes (Some statement) table) statements) parts.0)
         (sym (touched_all domain log (maker log before) before spans apart whole known are narrowed narrow table) ∙ not_false (list_any (is_touched (suc before)) (narrow_spans narrowed table)) parts.1)
 
     -- the rows of its program over these, looked at

@@ -1,9 +1,11 @@
 -- The annotations of computed rows, as they are added one by one.
-use Rattle.std.proofs.Common.{◌≡◌, Bool, true, false, true≢false, cond, refl, sym, ap, ◌∙◌, Option, Some, None}
-use Rattle.std.specs.BTreeMap.{BTreeMap, Updates, get}
+use Rattle.std.proofs.Common.{◌≡◌, zero, suc, Bool, true, false, true≢false, cond, List, [], ◌∷◌, All, refl, sym, ap, ◌∙◌, arith, Option, Some, None}
+use Rattle.std.specs.BTreeMap.{BTreeMap, Updates, get, is_at}
+use Rattle.std.specs.Map.{keys_of, lookup}
+use Rattle.std.proofs.lemmas.Bool.{false_from_ne_true}
 use Rattle.std.specs.Option.{option_or}
 use Rattle.std.specs.Prelude.{is_some}
-use Rattle.std.specs.Ordering.{is_eq}
+use Rattle.std.specs.Ordering.{is_eq, is_lt}
 use Rattle.gp_base.specs.Identities.{Identity, identity_cmp}
 use Rattle.gp_base.specs.IdentityOrder.{identity_cmp-exact}
 use Rattle.gp_history.specs.Noted.{noted}
@@ -44,3 +46,15 @@ module _ {M : Type 0} where
           whole (get identity_cmp old other) true
           (λ yes. ap (λ (key : Identity). is_some (get identity_cmp old key)) (sym (identity_cmp-exact id other (equal_from_is_eq (identity_cmp id other) is))) ∙ some)
       by false is = whole (get identity_cmp old other) false (λ no. absurd (true≢false (sym no)))
+
+  -- an identity behind the last one has none
+  pub behind : (entries : List (Identity × M)) (last id : Identity) → All (λ q. is_lt (identity_cmp last q) ≡ false) (keys_of entries) → is_lt (identity_cmp last id) ≡ true → lookup (is_at (identity_cmp id)) entries ≡ None
+  behind [] last id up before = refl
+  behind (e ∷ entries) last id up before =
+      ap (λ b. cond b (Some e.1) (lookup (is_at (identity_cmp id)) entries)) (false_from_ne_true (is_eq (identity_cmp id e.0)) other)
+      ∙ behind entries last id (λ k d lt. up (suc k) d (omega (arith, lt))) before
+    where
+      other : is_eq (identity_cmp id e.0) ≡ true → ⊥
+      other is =
+          let same : id ≡ e.0 = identity_cmp-exact id e.0 (equal_from_is_eq (identity_cmp id e.0) is) in
+          true≢false (sym (ap (λ own. is_lt (identity_cmp last own)) (sym same) ∙ before) ∙ up zero e.0 (omega arith))

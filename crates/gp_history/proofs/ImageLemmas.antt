@@ -1,6 +1,6 @@
 -- Annotations that lists of tokens stand for: programs over annotated versions give what their runs give and stop where these stop, since they do so over lists of
 -- tokens.
-use Rattle.std.proofs.Common.{◌≡◌, ℕ, true, false, true≢false, List, [], ◌∷◌, map, refl, sym, ap, ◌∙◌, Option, Some, None}
+use Rattle.std.proofs.Common.{◌≡◌, ℕ, true, false, List, [], ◌∷◌, map, refl, sym, ap, ◌∙◌, Option, Some, None}
 use Rattle.std.specs.List.{AllByRecursion}
 use Rattle.std.specs.Option.{option_map}
 use Rattle.std.proofs.lemmas.List.{append-nil, append_assoc}
@@ -31,7 +31,7 @@ use Rattle.gp_reenact.proofs.StopLemmas.{scanned_once, step_stop}
 use Rattle.gp_rewrite.specs.Meaning.{AreAsWide, IsMonoid}
 use Rattle.gp_history.proofs.VersionReannotation.{annotated_reannotated, computed_reannotated}
 use Rattle.gp_versions.specs.declared.span.Span.{Span}
-use Rattle.gp_history.specs.Changes.{is_scan, limited_to}
+use Rattle.gp_history.specs.Changes.{limited_to}
 use Rattle.gp_history.specs.Images.{IsImage}
 use Rattle.gp_history.proofs.StopLemmas.{program_stops}
 use Rattle.gp_history.proofs.TableLemmas.{held_rows, none_marked, wide_rows}
@@ -127,11 +127,3 @@ module _ {M : Type 0} (domain : Annotations M) (image : IsImage domain) (entries
     kept_is none =
         scanned_once domain (at_commit domain (log_of entries) t before past table) (past before table)
         (sym published_means ∙ ap (λ o. qm.meaning domain (qm.steps_meaning domain past program.steps no_steps) past (published_by o)) none)
-
-    scan_of : (o : Option ℕ) → last_write (log_of entries) t (statement_count t entries) table ≡ o → is_scan (published_by o) ≡ true → o ≡ None
-    scan_of None is scans = refl
-    scan_of (Some j) is scans = absurd (true≢false (sym scans))
-
-    -- a table whose program is a scan has no statement on it
-    pub scan_is : is_scan program.last ≡ true → last_write (log_of entries) t (statement_count t entries) table ≡ None
-    scan_is scans = scan_of (last_write (log_of entries) t (statement_count t entries) table) refl scans

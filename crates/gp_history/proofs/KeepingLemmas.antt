@@ -17,6 +17,7 @@ use Rattle.gp_history.specs.Agreement.{agree}
 use Rattle.gp_history.specs.Annotating.{Annotates}
 use Rattle.gp_history.specs.Changes.{commit_stop}
 use Rattle.gp_history.specs.Keeping.{GoesOn, IsKept, Reaches}
+use Rattle.gp_history.specs.Seeking.{AreFinders}
 use Rattle.gp_history.specs.SpanAnnotations.{AreAnnotated}
 use Rattle.gp_history.specs.declared.error.HistoryStop.{HistoryStop}
 use Rattle.gp_history.specs.declared.error.HistoryStop.TheVariants as stops
@@ -57,10 +58,10 @@ module _ {M : Type 0} (domain : Annotations M) (entries : List Entry) (spans : �
   stop = annotation_stop domain parameters agree (tables_in entries) (log_of entries) spans
 
   -- one more version
-  pub kept_more : (kept next : Kept M) → IsKept domain entries spans kept → kept.version < versions_in entries → next.version ≡ suc kept.version
+  pub kept_more : (kept next : Kept M) → IsKept domain entries spans kept → AreFinders spans next.finders.items → kept.version < versions_in entries → next.version ≡ suc kept.version
       → AreAnnotated domain (log_of entries) spans (suc kept.version) next.annotated → commit_stop domain (log_of entries) spans kept.version (tables_in entries) ≡ None
       → (stop (suc kept.version) ≡ None) × GoesOn domain entries spans kept.version next
-  kept_more kept next is more same are goes =
+  kept_more kept next is finders more same are goes =
       let none = stop_none_more domain (tables_in entries) (log_of entries) spans kept.version is.unstopped goes in (
         none,
         (
@@ -68,6 +69,7 @@ module _ {M : Type 0} (domain : Annotations M) (entries : List Entry) (spans : �
             within = omega (arith, more, same);
             annotated = subst (λ (n : ℕ). AreAnnotated domain (log_of entries) spans n next.annotated) (sym same) are;
             unstopped = subst (λ (n : ℕ). stop n ≡ None) (sym same) none;
+            finders = finders;
           },
           same,
         ),

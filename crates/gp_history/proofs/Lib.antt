@@ -20,7 +20,9 @@ mod ProvenanceLemmas
 mod ProvingLemmas
 mod PublishedLemmas
 mod ReachLemmas
+mod RenewingLemmas
 mod RunLemmas
+mod SeekingLemmas
 mod SpanLemmas
 mod StartLemmas
 mod StopLemmas

@@ -48,7 +48,7 @@ filter_within p (x ∷ xs) =
     ]
 
 -- what is left of a list, from the item at a place on
-next_dropped : {X : Type 0} (xs : List X) (i : ℕ) (x : X) → i < length xs → x ≡ slice_index_or xs i x → drop i xs ≡ x ∷ drop (i + 1) xs
+pub next_dropped : {X : Type 0} (xs : List X) (i : ℕ) (x : X) → i < length xs → x ≡ slice_index_or xs i x → drop i xs ≡ x ∷ drop (i + 1) xs
 next_dropped xs i x within is = drop_more xs i x within ∙ ap (λ y. y ∷ drop (i + 1) xs) (sym is)
 
 -- ---- the versions between two
@@ -176,9 +176,11 @@ module _ {M : Type 0} (log : Log) (t before table : ℕ) (spans : List Span) (an
     held = λ v read span is. held_each reach v span (covers.all v read) (parts span is).0;
     foreign = λ span is. not_false (identity_transaction span.id == t) (others span is).0;
     left_alone = λ span is k statement there. all_at (leaves table span.row) statements statement (others span is).1 (found k statement there);
-    room = λ k statement there into. subst (λ (count : ℕ). most + count ≤ MAX_TABLE_ROWS) by.left.count (room (any_at (inserts_into table) statements statement (found k statement there) into));
-    spans_are = by.left.spans_are;
-    annotations_are = by.left.annotations_are;
+    room = λ k statement there into.
+        let any = any_at (inserts_into table) statements statement (found k statement there) into in
+        subst (λ (count : ℕ). most + count ≤ MAX_TABLE_ROWS) (by.count any) (room any);
+    spans_are = by.spans_are;
+    annotations_are = by.annotations_are;
   }
     where
       stays : Span → Bool

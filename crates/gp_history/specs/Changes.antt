@@ -43,10 +43,6 @@ stopped t exec.NoMemory = NoMemory
 
 -- ---- one table
 
-abbrev pub is_scan : Query → Bool
-is_scan (q.scan table version) = true
-is_scan _ = false
-
 abbrev pub ends_at : ℕ → Option ℕ → Bool
 ends_at version None = false
 ends_at version (Some to) = to == version
@@ -77,7 +73,7 @@ AreNotes rows spans version notes =
 abbrev pub FindsRows : {M : Type 0} → List (Annotated M) → List Span → ℕ → ℕ → Result (Option (BTreeMap Identity M)) HistoryStop → Type 0
 FindsRows rows spans version table (Ok None) = ⊥
 FindsRows rows spans version table (Ok (Some notes)) = (keys_agree (map key_of rows) (keys_of version spans) ≡ true) × AreNotes rows spans version notes
-FindsRows rows spans version table (Err (Inconsistent u own)) = (keys_agree (map key_of rows) (keys_of version spans) ≡ false) × ((u ≡ version) × (own ≡ table))
+FindsRows rows spans version table (Err (Inconsistent u place)) = (keys_agree (map key_of rows) (keys_of version spans) ≡ false) × ((u ≡ version) × (place ≡ table))
 FindsRows rows spans version table (Err (Rows t k)) = ⊥
 FindsRows rows spans version table (Err (Ancestry t k)) = ⊥
 FindsRows rows spans version table (Err NoMemory) = Unit {0}
@@ -182,8 +178,8 @@ module _ {M : Type 0} (domain : Annotations M) where
     ChangesTable table (Ok None) = IsKept log (maker log before) (suc before) table (spans table)
     ChangesTable table (Ok (Some found)) =
         (maker_stop ≡ None) × ((agree (made table) (held table) ≡ true) × Finds (suc before) found (spans table) (made table))
-    ChangesTable table (Err (Inconsistent version own)) =
-        (maker_stop ≡ None) × ((agree (made table) (held table) ≡ false) × ((version ≡ suc before) × (own ≡ table)))
+    ChangesTable table (Err (Inconsistent version place)) =
+        (maker_stop ≡ None) × ((agree (made table) (held table) ≡ false) × ((version ≡ suc before) × (place ≡ table)))
     ChangesTable table (Err (Rows t k)) = option_map stop_refusal maker_stop ≡ Some (E25 t k)
     ChangesTable table (Err (Ancestry t k)) = option_map stop_refusal maker_stop ≡ Some (E26 t k)
     ChangesTable table (Err NoMemory) = Unit {0}

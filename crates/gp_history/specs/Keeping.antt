@@ -7,6 +7,7 @@ use Rattle.gp_machine.specs.Entries.{Entry, log_of, versions_in}
 use Rattle.gp_machine.specs.Questions.{annotation_stop}
 use Rattle.gp_versions.specs.declared.span.Span.{Span}
 use Rattle.gp_history.specs.Agreement.{agree}
+use Rattle.gp_history.specs.Seeking.{AreFinders}
 use Rattle.gp_history.specs.SpanAnnotations.{AreAnnotated}
 use Rattle.gp_history.specs.declared.kept.Kept.{Kept}
 
@@ -15,6 +16,7 @@ module _ {M : Type 0} (domain : Annotations M) (entries : List Entry) (spans : �
     pub within : kept.version ≤ versions_in entries
     pub annotated : AreAnnotated domain (log_of entries) spans kept.version kept.annotated
     pub unstopped : annotation_stop domain parameters agree (tables_in entries) (log_of entries) spans kept.version ≡ None
+    pub finders : AreFinders spans kept.finders.items
 
   abbrev pub MayBeKept : Option (Kept M) → Type 0
   MayBeKept None = Unit {0}

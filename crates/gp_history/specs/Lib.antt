@@ -10,6 +10,7 @@ pub mod Narrowing
 pub mod Noted
 pub mod Provenance
 pub mod Running
+pub mod Seeking
 pub mod Scanning
 pub mod Sound
 pub mod SpanAnnotations

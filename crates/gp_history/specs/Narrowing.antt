@@ -25,7 +25,7 @@ use Rattle.gp_history.specs.declared.narrowed.Reach.{Reach}
 -- ---- rows that a statement neither writes nor makes a row of
 
 abbrev pub is_among : ℕ → List ℕ → Bool
-is_among table tables = list_any (λ own. own == table) tables
+is_among table tables = list_any (λ other. other == table) tables
 
 -- the condition is there, and is not true
 abbrev pub is_refused : Option Cond → List Cell → Bool
@@ -104,6 +104,10 @@ row_stays reach t statements table span =
 abbrev pub stays_if : Bool → Reach → ℕ → List Statement → ℕ → Span → Bool
 stays_if tested reach t statements table span = tested && row_stays reach t statements table span
 
+-- whether the row version of a span is left, where rows are tested
+abbrev pub is_left : Reach → ℕ → List Statement → ℕ → Span → Bool
+is_left reach t statements table span = meets reach span && not (row_stays reach t statements table span)
+
 -- a version that the transaction reads which makes the version after this one, or that version
 pub data IsRead (log : Log) (t before : ℕ) : ℕ → Type 0 where
   at_begin : {j : ℕ} → j ≤ log.statement_count t → IsRead log t before (log.version t j)
@@ -152,10 +156,18 @@ pub record IsLeft {M : Type 0} (meets stays : Span → Bool) (spans : List Span)
   pub annotations_are : part_annotations part ≡ chosen_with (λ span. meets span && not (stays span)) spans annotations
   pub count : part.left_out ≡ length (filter stays spans)
 
--- by a reach and statements, where no more rows stay than a table may have
+-- what is left of spans, without the number of those that stay
+pub record IsFound {M : Type 0} (is_left : Span → Bool) (spans : List Span) (annotations : List M) (part : Part M) : Type 0 where
+  pub spans_are : part_spans part ≡ filter is_left spans
+  pub annotations_are : part_annotations part ≡ chosen_with is_left spans annotations
+  pub none : part.left_out ≡ 0
+
+-- By a reach and statements, where no more rows stay than a table may have. Those that stay are counted where an INSERT into the table counts all.
 pub record IsLeftBy {M : Type 0} (reach : Reach) (t : ℕ) (statements : List Statement) (table : ℕ) (spans : List Span) (annotations : List M) (part : Part M) : Type 0 where
   pub tested : Bool
-  pub left : IsLeft (meets reach) (stays_if tested reach t statements table) spans annotations part
+  pub spans_are : part_spans part ≡ filter (λ span. meets reach span && not (stays_if tested reach t statements table span)) spans
+  pub annotations_are : part_annotations part ≡ chosen_with (λ span. meets reach span && not (stays_if tested reach t statements table span)) spans annotations
+  pub count : list_any (inserts_into table) statements ≡ true → part.left_out ≡ length (filter (stays_if tested reach t statements table) spans)
   pub few : part.left_out ≤ MAX_TABLE_ROWS
 
 -- What is left of the spans of a table: those that meet the versions and do not stay. What stays is left by all statements, and is no row of the

@@ -18,7 +18,7 @@ held_key row = key_of (row_view row)
 
 -- the annotation of a row, if the row has this identity
 abbrev pub noted : {M : Type 0} → Identity → Identity → M → Option M
-noted id own annotation = if is_eq (identity_cmp own id) then Some annotation else None
+noted id other annotation = if is_eq (identity_cmp other id) then Some annotation else None
 
 -- the annotation of the first row with this identity
 abbrev pub first_noted : {M : Type 0} → Identity → List (Annotated M) → Option M

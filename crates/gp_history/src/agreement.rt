@@ -100,9 +100,9 @@ fn sorted_agree<A>(
         yes ≡ keys_agree (map held_key rows.now)
         (keys_of version (map (λ span. span.now) spans.now))) }
 {
-    let mut own = keys_in(alloc, rows)?;
+    let mut keys = keys_in(alloc, rows)?;
     let mut due = keys_at(alloc, spans, version)?;
-    sort_rows(&mut own)?;
+    sort_rows(&mut keys)?;
     sort_rows(&mut due)?;
-    Ok(are_equal(own.as_slice(), due.as_slice()))
+    Ok(are_equal(keys.as_slice(), due.as_slice()))
 }

@@ -1,13 +1,19 @@
 //! What a commit changes, table by table.
 
-ghost use Rattle.std.specs.Prelude.{◌≡◌, ◌<◌, ◌&&◌, not, true, map};
+ghost use Rattle.std.specs.Prelude.{◌≡◌, ◌<◌, ◌&&◌, not, true, map, Some};
 ghost use Rattle.std.specs.List.{list_any};
 ghost use Rattle.gp_algebra.specs.Fitting.{is_there};
-ghost use Rattle.gp_algebra.specs.QueryViews.{annotated_program_view, annotated_view};
-ghost use Rattle.gp_history.specs.Changes.{FindsRows, is_scan, is_touched, stopped};
+ghost use Rattle.gp_algebra.specs.QueryViews.{annotated_program_view};
+ghost use Rattle.gp_algebra.specs.Views.{statement_view};
+ghost use Rattle.gp_compose.specs.Composed.{writes};
+ghost use Rattle.gp_machine.specs.Entries as m;
+ghost use Rattle.gp_reenact.specs.Reenacting.{spans_of};
+ghost use Rattle.gp_history.specs.Changes.{FindsRows, is_touched, stopped};
+ghost use Rattle.gp_history.specs.Narrowing as n;
+ghost use Rattle.gp_history.specs.Seeking.{AreFinders};
 ghost use Rattle.gp_history.specs.Annotating.{Annotates};
 ghost use Rattle.gp_history.specs.Noted.{row_view};
-ghost use Rattle.gp_log.specs.Contents.{commits, tables};
+ghost use Rattle.gp_log.specs.Contents.{commits, entries, tables};
 ghost use Rattle.gp_history.specs.Histories as h;
 
 use crate::agreement::agree;
@@ -15,15 +21,16 @@ use crate::annotated::Annotated;
 use crate::annotator::{Annotator, Publication};
 use crate::error::HistoryStop;
 use crate::found::notes_of;
-use crate::narrowed::Narrowed;
-use crate::published::{is_scan, published_program};
+use crate::inert::write_to;
+use crate::narrowed::{Narrowed, statements_of};
+use crate::published::published_program;
 use crate::spans::{are_touched, spans_in};
-use gp_algebra::AQuery;
+use gp_algebra::Stmt;
 use gp_base::RowId;
 use gp_exec::ExecStop;
 use gp_kexec::Held;
 use gp_log::Log;
-use gp_versions::{Span, VersionTable};
+use gp_versions::{Finder, Span, VersionTable};
 use std::alloc::Global;
 use std::collections::BTreeMap;
 
@@ -56,12 +63,13 @@ fn rows_change<A: Drop, N: Annotator<A>>(
     Ok(Some(notes_of(alloc, annotator, rows, spans, version)?))
 }
 
-/// Whether a program is a scan, and no span begins or ends at the version.
-fn is_untouched(last: &AQuery, spans: &[&Span], version: u32) -> bool
-    ensures { result ≡ (is_scan (annotated_view last.now)
+/// Whether no statement writes the table, and no span begins or ends at the version.
+fn is_untouched(statements: &[&Stmt], table: u32, spans: &[&Span], version: u32) -> bool
+    ensures { result ≡ (not (list_any (λ stmt. writes (Some stmt) table)
+        (map (λ stmt. statement_view stmt.now) statements.now))
         && not (list_any (is_touched version) (map (λ span. span.now) spans.now))) }
 {
-    is_scan(last) && !are_touched(spans, version)
+    !write_to(statements, table) && !are_touched(spans, version)
 }
 
 /// What a commit does to a table whose published rows are computed over all row versions and compared with them.
@@ -101,8 +109,8 @@ fn whole_change<A: Drop, N: Annotator<A>>(
     }
 }
 
-/// What the commit after a version does to a table: nothing, if the transaction has no statement on it and no span begins or
-/// ends there; else the rows that it published are computed and compared, over the row versions that matter to it. If a step
+/// What the commit after a version does to a table: nothing, if none of the transaction's statements writes it and no span begins
+/// or ends there; else the rows that it published are computed and compared, over the row versions that matter to it. If a step
 /// stops there, all row versions tell whether the transaction's run does.
 fn table_change<A: Drop, N: Annotator<A>>(
     alloc: Global,
@@ -113,26 +121,30 @@ fn table_change<A: Drop, N: Annotator<A>>(
     narrowed: &Narrowed<'_, A>,
     before: u32,
     t: u32,
+    statements: &[&Stmt],
     table: u32,
 ) -> Result<Option<BTreeMap<RowId, A>>, HistoryStop>
     requires sound { h.IsSound log.now versions.now }
     requires within { before < commits log.now }
     requires maker { t ≡ h.maker log.now before }
+    requires statements { map (λ stmt. statement_view stmt.now) statements.now
+        ≡ n.statements_upto (m.log_of (entries log.now)) t
+        (m.statement_count t (entries log.now)) }
     requires there { is_there (tables log.now) table ≡ true }
     requires known { h.AreAnnotated (N.domain annotator.now) log.now versions.now before known.now }
     requires narrowed { h.IsNarrow log.now versions.now t before known.now narrowed.now }
     ensures { h.ChangesTable (N.domain annotator.now) log.now versions.now before table result }
 {
     log.bounds();
+    let spans = narrowed.spans(table);
+    if is_untouched(statements, table, spans, before + 1) {
+        return Ok(None);
+    }
     let of = Publication {
         before,
         table,
         program: published_program(alloc, log, t, table)?,
     };
-    let spans = narrowed.spans(table);
-    if is_untouched(&of.program.last, spans, before + 1) {
-        return Ok(None);
-    }
     match annotator.rows(alloc, log, versions, narrowed, &of) {
         Ok(rows) => rows_change(alloc, annotator, &rows, spans, before + 1, table),
         Err(ExecStop::NoMemory) => Err(HistoryStop::NoMemory),
@@ -157,21 +169,42 @@ pub fn changes_of<A: Drop, N: Annotator<A>>(
     log: &Log,
     versions: &[VersionTable],
     known: &Annotated<A>,
+    finders: &[Finder],
     before: u32,
 ) -> Result<Vec<Option<BTreeMap<RowId, A>>>, HistoryStop>
     requires sound { h.IsSound log.now versions.now }
     requires within { before < commits log.now }
     requires known { h.AreAnnotated (N.domain annotator.now) log.now versions.now before known.now }
+    requires finders { AreFinders (spans_of versions.now) finders.now }
     ensures { Annotates (λ changes. h.AreChanges (N.domain annotator.now) log.now versions.now
         before changes.items) (tables log.now) result (h.commit_stop (N.domain annotator.now)
         log.now versions.now before) }
 {
     let t = maker_after(log, before);
-    let narrowed = Narrowed::of_commit(alloc, log, versions, known, before, t)?;
+    let statements = statements_of(alloc, log, t)?;
+    let narrowed = Narrowed::of_commit(
+        alloc,
+        log,
+        versions,
+        known,
+        before,
+        t,
+        &statements,
+        finders,
+    )?;
     let mut changes = Vec::new(alloc);
     for table in 0..log.catalog().len() {
         let change = match table_change(
-            alloc, annotator, log, versions, known, &narrowed, before, t, table,
+            alloc,
+            annotator,
+            log,
+            versions,
+            known,
+            &narrowed,
+            before,
+            t,
+            &statements,
+            table,
         ) {
             Ok(change) => change,
             Err(stop) => return Err(stop),

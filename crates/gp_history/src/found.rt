@@ -1,6 +1,6 @@
 //! The annotations of computed rows, by their identities.
 
-ghost use Rattle.std.specs.Prelude.{◌≡◌, map, IfOk, OnOk, unwrap_or};
+ghost use Rattle.std.specs.Prelude.{◌≡◌, false, is_some, map, true, IfOk, OnOk, unwrap_or};
 ghost use Rattle.std.specs.BTreeMap.{get};
 ghost use Rattle.std.specs.Option.{option_or};
 ghost use Rattle.gp_base.specs.Identities.{Identity, identity_cmp};
@@ -14,6 +14,27 @@ use gp_versions::Span;
 use std::alloc::Global;
 use std::collections::BTreeMap;
 
+/// Whether an identity stands behind all that have an annotation. Rows come in order of identity where row versions are in it, so
+/// that this tells it of most of them.
+fn is_behind<A>(found: &BTreeMap<RowId, A>, id: &RowId) -> bool
+    ensures { result ≡ true → is_some (get identity_cmp found.now id.now) ≡ false }
+{
+    match found.last_key_value() {
+        Some((last, _)) => last.cmp(id).is_lt(),
+        None => false,
+    }
+}
+
+/// Whether an identity has an annotation.
+fn has<A>(found: &BTreeMap<RowId, A>, id: &RowId) -> bool
+    ensures { result ≡ is_some (get identity_cmp found.now id.now) }
+{
+    if is_behind(found, id) {
+        return false;
+    }
+    found.contains_key(id)
+}
+
 /// Adds the annotation of a row, if its identity has none yet.
 fn add<A: Drop, N: Annotator<A>>(
     alloc: Global,
@@ -24,7 +45,7 @@ fn add<A: Drop, N: Annotator<A>>(
     ensures { OnOk result ((other : Identity) → get identity_cmp found.new other
         ≡ option_or (get identity_cmp found.old other) (noted other row.now.id row.now.value)) }
 {
-    if found.contains_key(&row.id) {
+    if has(found, &row.id) {
         return Ok(());
     }
     let annotation = annotator.copy(alloc, &row.value)?;

@@ -1,11 +1,12 @@
 //! Rows that a statement does not look at any further: it neither writes them nor makes rows of them.
 
-ghost use Rattle.std.specs.Prelude.{◌≡◌, true, map};
+ghost use Rattle.std.specs.Prelude.{◌≡◌, true, map, Some};
 ghost use Rattle.std.specs.List.{list_all, list_any};
 ghost use Rattle.std.specs.Option.{option_map};
 ghost use Rattle.gp_algebra.specs.Simple.{branch_is_simple, select_is_simple, where_is_simple};
 ghost use Rattle.gp_algebra.specs.Views.{branch_view, select_view, statement_view};
 ghost use Rattle.gp_expr.specs.Views.{cond_view};
+ghost use Rattle.gp_compose.specs.Composed.{writes};
 ghost use Rattle.gp_history.specs.Narrowing as n;
 
 use gp_algebra::{Branch, Select, Stmt};
@@ -13,10 +14,10 @@ use gp_base::Row;
 use gp_expr::{Cond, truth};
 
 /// Whether a table is one of these.
-fn is_among(tables: &[u32], table: u32) -> bool
+pub fn is_among(tables: &[u32], table: u32) -> bool
     ensures { result ≡ n.is_among table tables.now }
 {
-    tables.iter().any(|own| *own == table)
+    tables.iter().any(|other| *other == table)
 }
 
 /// Whether the condition is there, and is not true.
@@ -65,11 +66,11 @@ fn leaves(stmt: &Stmt, table: u32, row: &Row) -> bool
         Stmt::Insert { .. } | Stmt::Read { .. } => true,
         Stmt::InsertSelect { select, .. } => select_skips(select, table, row),
         Stmt::Update {
-            table: own,
+            table: other,
             cond,
             ..
         }
-        | Stmt::Delete { table: own, cond } => *own != table || !truth(cond, row).holds(),
+        | Stmt::Delete { table: other, cond } => *other != table || !truth(cond, row).holds(),
     }
 }
 
@@ -126,11 +127,11 @@ fn sweeps(stmt: &Stmt, table: u32) -> bool
         Stmt::Insert { .. } | Stmt::Read { .. } => false,
         Stmt::InsertSelect { select, .. } => select_takes(select, table),
         Stmt::Update {
-            table: own,
+            table: other,
             cond,
             ..
         }
-        | Stmt::Delete { table: own, cond } => *own == table && is_always(cond),
+        | Stmt::Delete { table: other, cond } => *other == table && is_always(cond),
     }
 }
 
@@ -147,12 +148,38 @@ pub fn are_swept(statements: &[&Stmt], table: u32) -> bool
     false
 }
 
+/// Whether a statement writes the table.
+fn is_write(stmt: &Stmt, table: u32) -> bool
+    ensures { result ≡ writes (Some (statement_view stmt.now)) table }
+{
+    match stmt {
+        Stmt::Insert { table: other, .. }
+        | Stmt::InsertSelect { table: other, .. }
+        | Stmt::Update { table: other, .. }
+        | Stmt::Delete { table: other, .. } => table == *other,
+        Stmt::Read { .. } => false,
+    }
+}
+
+/// Whether one of the statements of a transaction writes the table.
+pub fn write_to(statements: &[&Stmt], table: u32) -> bool
+    ensures { result ≡ list_any (λ stmt. writes (Some stmt) table)
+        (map (λ stmt. statement_view stmt.now) statements.now) }
+{
+    for stmt in statements {
+        if is_write(stmt, table) {
+            return true;
+        }
+    }
+    false
+}
+
 /// Whether it is an INSERT into the table.
 fn is_insert_into(stmt: &Stmt, table: u32) -> bool
     ensures { result ≡ n.inserts_into table (statement_view stmt.now) }
 {
     match stmt {
-        Stmt::Insert { table: own, .. } | Stmt::InsertSelect { table: own, .. } => *own == table,
+        Stmt::Insert { table: into, .. } | Stmt::InsertSelect { table: into, .. } => *into == table,
         Stmt::Update { .. } | Stmt::Delete { .. } | Stmt::Read { .. } => false,
     }
 }

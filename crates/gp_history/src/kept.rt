@@ -11,10 +11,14 @@ use crate::annotating::next_annotated;
 use crate::annotator::Annotator;
 use crate::asking::refused;
 use crate::error::HistoryStop;
+use crate::finders::{enter_commit, finders_of};
 use gp_base::{NoMemory, Stop};
 use gp_log::Log;
-use gp_versions::VersionTable;
+use gp_versions::{Finder, VersionTable};
 use std::alloc::Global;
+
+/// For so many versions finders of the row versions are made.
+const MANY: u32 = 16;
 
 /// The annotations of the row versions that begin with the versions up to one of them.
 #[derive(Drop)]
@@ -23,6 +27,8 @@ pub struct Kept<A> {
     pub version: u32,
     /// The annotations. Those of later row versions are one.
     pub annotated: Annotated<A>,
+    /// Finders of the row versions of the tables, or none.
+    pub finders: Vec<Finder>,
 }
 
 /// One more version.
@@ -42,10 +48,21 @@ fn next_kept<A: Drop, N: Annotator<A>>(
 {
     log.bounds();
     let version = kept.version;
-    match next_annotated(alloc, annotator, log, versions, kept.annotated, version) {
+    let mut finders = kept.finders;
+    enter_commit(alloc, log, versions, &mut finders, log.maker(version + 1))?;
+    match next_annotated(
+        alloc,
+        annotator,
+        log,
+        versions,
+        kept.annotated,
+        &finders,
+        version,
+    ) {
         Ok(annotated) => Ok(Kept {
             version: version + 1,
             annotated,
+            finders,
         }),
         Err(stop) => Err(stop),
     }
@@ -67,8 +84,32 @@ fn begun<A: Drop, N: Annotator<A>>(
         None => Ok(Kept {
             version: 0,
             annotated: Annotated::new(alloc, annotator, versions)?,
+            finders: Vec::new(alloc),
         }),
     }
+}
+
+/// The annotations that are kept, with finders of the row versions, if there are many versions up to this one.
+fn readied<A: Drop, N: Annotator<A>>(
+    alloc: Global,
+    annotator: &N,
+    log: &Log,
+    versions: &[VersionTable],
+    kept: Kept<A>,
+    v: u32,
+) -> Result<Kept<A>, NoMemory>
+    requires { h.IsKept (N.domain annotator.now) log.now versions.now kept }
+    ensures { IfOk result (h.IsKept (N.domain annotator.now) log.now versions.now) }
+{
+    if !kept.finders.is_empty() || v.saturating_sub(kept.version) < MANY {
+        return Ok(kept);
+    }
+    let finders = finders_of(alloc, versions)?;
+    Ok(Kept {
+        version: kept.version,
+        annotated: kept.annotated,
+        finders,
+    })
 }
 
 /// The annotations of the row versions of a log that begin with the versions up to v, or up to a later version, from those that are kept.
@@ -80,8 +121,8 @@ fn begun<A: Drop, N: Annotator<A>>(
 /// some table, by the first such table in order of creation. The log and row versions of a history never stop.
 ///
 /// One commit takes the time of its transaction's programs on the tables that it writes, over the row versions that its statements
-/// write, make rows of or join; of the others each is looked at once. A table that it has no statement on and none of whose spans
-/// begins or ends there is not looked at but for that.
+/// write, make rows of or join. Where all their conditions on a table ask for a cell, the others are not looked at; else each is
+/// looked at once. No program is made for a table that it has no statement on and none of whose spans begins or ends there.
 fn annotate_on<A: Drop, N: Annotator<A>>(
     alloc: Global,
     annotator: &N,
@@ -96,7 +137,8 @@ fn annotate_on<A: Drop, N: Annotator<A>>(
     ensures { Annotates (h.Reaches (N.domain annotator.now) log.now versions.now v) (tables log.now)
         result (h.annotation_stop (N.domain annotator.now) log.now versions.now v) }
 {
-    let mut known = begun(alloc, annotator, log, versions, kept)?;
+    let known = begun(alloc, annotator, log, versions, kept)?;
+    let mut known = readied(alloc, annotator, log, versions, known, v)?;
     while known.version < v {
         known = match next_kept(alloc, annotator, log, versions, known) {
             Ok(next) => next,

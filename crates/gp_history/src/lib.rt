@@ -6,10 +6,10 @@
 //! span that begins there the monomial of its row, or an element of a semiring. An [`Annotator`] knows how programs are run over its
 //! annotations, and [`Kept`] ones serve the next question too. [`provenance_from`] answers a query over a past state with monomials,
 //! [`values_from`] with elements. Most rows of a table stay as they are at a commit, so its programs run over the row versions that
-//! matter to it alone (`narrowed.rt`). The functions of `value_laws.rt` say that what is computed with elements is what the monomials
-//! of the history come to.
+//! matter to it alone (`narrowed.rt`), which are found by the cells that its conditions ask for (`sought.rt`). The functions of
+//! `value_laws.rt` say that what is computed with elements is what the monomials of the history come to.
 //!
-//! In `specs/`, `Narrowing` says which row versions these are, `Agreement` when two tables have the same rows, `SpanAnnotations` what
+//! In `specs/`, `Narrowing` says which row versions these are, `Seeking` what finds them, `Agreement` when two tables have the same rows, `SpanAnnotations` what
 //! annotated spans hold, `Annotating` what annotating answers, `Images` why elements may stand for monomials, and `Provenance` and
 //! `Values` what questions answer; `ValueAnswers` has the answer for values by the monomials of the annotated answer, and what is
 //! computed for it, `DistinctRows` the rows of an answer, and `Room` how often a token can occur in an annotation.
@@ -28,6 +28,7 @@ mod asking;
 mod changes;
 mod elements;
 mod error;
+mod finders;
 mod found;
 mod inert;
 mod kept;
@@ -37,6 +38,7 @@ mod monomials;
 mod narrowed;
 mod proving;
 mod published;
+mod sought;
 mod spans;
 mod value_laws;
 mod valuing;

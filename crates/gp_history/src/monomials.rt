@@ -33,10 +33,14 @@ use std::alloc::Global;
 // ---- scans
 
 /// The row of a span, with identity, the mark NO and a monomial.
-fn encoded_row(span: &Span, monomial: &Monomial) -> Result<Row, NoMemory>
+fn encoded_row(alloc: Global, span: &Span, monomial: &Monomial) -> Result<Row, NoMemory>
     ensures { IfOk result (λ row. row ≡ encoded_row true (span_row monomial.now span.now)) }
 {
-    let mut row = span.row.clone()?;
+    let cells = span.row.cells();
+    let mut row = Row::with_capacity(alloc, cells.len().saturating_add(3))?;
+    for cell in cells {
+        row.push(cell.clone()?)?;
+    }
     row.push(Cell::Id(span.id.clone()?))?;
     row.push(Cell::Mark(false))?;
     row.push(Cell::Mono(monomial.clone()?))?;
@@ -60,7 +64,7 @@ fn encoded_rows(
             return Ok(rows);
         };
         if span.holds(version) {
-            rows.push(encoded_row(span, monomial)?)?;
+            rows.push(encoded_row(alloc, span, monomial)?)?;
         }
     }
     Ok(rows)
@@ -145,15 +149,15 @@ fn is_marked(row: &Row) -> bool
 
 /// The cells of a row with system columns, without these.
 fn cells_of(alloc: Global, row: &Row) -> Result<Row, NoMemory>
-    ensures { IfOk result (λ own. own ≡ cells_of row.now) }
+    ensures { IfOk result (λ copy. copy ≡ cells_of row.now) }
 {
     let cells = row.cells();
     let count = cells.len().saturating_sub(3);
-    let mut own = Row::with_capacity(alloc, count)?;
+    let mut copy = Row::with_capacity(alloc, count)?;
     for i in 0..count {
-        own.push(cells[i].clone()?)?;
+        copy.push(cells[i].clone()?)?;
     }
-    Ok(own)
+    Ok(copy)
 }
 
 /// A row with system columns that has this identity and this monomial.
@@ -200,8 +204,8 @@ fn decoded(alloc: Global, rows: &[Row]) -> Result<Vec<Held<Monomial>>, NoMemory>
 {
     let mut held = Vec::new(alloc);
     for row in rows {
-        if let Some(own) = decoded_row(alloc, row)? {
-            held.push(own)?;
+        if let Some(one) = decoded_row(alloc, row)? {
+            held.push(one)?;
         }
     }
     Ok(held)

@@ -5,8 +5,11 @@
 //! these versions and in what the commit publishes. So it is left out on both sides: programs run over the other row versions, and what
 //! they publish is compared with the other row versions. Only the number of rows that an INSERT leaves counts all rows, so the
 //! programs stop as many rows before.
+//!
+//! The others are few in most commits: row versions that begin or end while the transaction runs, rows of its own, and rows with a cell
+//! that one of its conditions asks for. A finder of each table gives their places. Where it does not, a pass tests all.
 
-ghost use Rattle.std.specs.Prelude.{◌≡◌, ◌+◌, ◌≤◌, ◌<◌, ◌&&◌, ◌++◌, ℕ, [], not, true, length, map, slice_index_or, IfOk, OnOk};
+ghost use Rattle.std.specs.Prelude.{◌≡◌, ◌+◌, ◌≤◌, ◌<◌, ◌&&◌, ◌++◌, ℕ, [], not, true, length, map, slice_get, slice_index_or, IfOk, IfSome, MatchOption, OnOk};
 ghost use Rattle.std.specs.List.{list_all};
 ghost use Rattle.std.specs.Option.{option_map};
 ghost use Rattle.gp_algebra.specs.Views.{statement_view};
@@ -17,16 +20,22 @@ ghost use Rattle.gp_log.specs.Contents.{commits, entries};
 ghost use Rattle.gp_log.specs.Sessions.{KeepsSessions};
 ghost use Rattle.gp_machine.specs.Entries as m;
 ghost use Rattle.gp_reenact.specs.Reenacting.{spans_of};
+ghost use Rattle.gp_versions.specs.Finding.{AreAscending, HasThose, IsFinder};
 ghost use Rattle.gp_history.specs.Histories as h;
+ghost use Rattle.gp_history.specs.Seeking.{AreFinders};
 
 use crate::annotated::Annotated;
 use crate::inert::{all_leave, are_swept, insert_into};
+use crate::sought::cells_for;
 use crate::spans::spans_in;
 use gp_algebra::Stmt;
 use gp_base::{MAX_TABLE_ROWS, NoMemory};
 use gp_log::Log;
-use gp_versions::{Span, VersionTable};
+use gp_versions::{Finder, Span, VersionTable, Wanted};
 use std::alloc::Global;
+
+/// A finder serves where it finds fewer than one of so many row versions. Else a pass over all is as quick.
+const FEW: usize = 8;
 
 // ---- what a transaction reads
 
@@ -90,7 +99,7 @@ fn push_found<'a>(statements: &mut Vec<&'a Stmt>, found: Option<&'a Stmt>) -> Re
 }
 
 /// The statements of a transaction.
-fn statements_of(alloc: Global, log: &Log, t: u32) -> Result<Vec<&Stmt>, NoMemory>
+pub fn statements_of(alloc: Global, log: &Log, t: u32) -> Result<Vec<&Stmt>, NoMemory>
     ensures { IfOk result (λ all. map (λ stmt. statement_view stmt.now) all.items
         ≡ n.statements_upto (m.log_of (entries log.now)) t
         (m.statement_count t (entries log.now))) }
@@ -127,6 +136,31 @@ fn stays_if(
         (map (λ stmt. statement_view stmt.now) statements.now) table span.now }
 {
     tested && row_stays(span, reach, t, statements, table)
+}
+
+/// Whether a row version is left: it meets the versions, and its row does not stay.
+fn is_left(span: &Span, reach: Reach, t: u32, statements: &[&Stmt], table: u32) -> bool
+    requires { list_all tests_are_simple
+        (map (λ stmt. statement_view stmt.now) statements.now) ≡ true }
+    ensures { result ≡ n.is_left reach t
+        (map (λ stmt. statement_view stmt.now) statements.now) table span.now }
+{
+    reach.meets(span) && !row_stays(span, reach, t, statements, table)
+}
+
+/// The place, if it is not below the next one, and there are more than so many.
+fn unseen(place: u32, next: usize, count: usize) -> Option<usize>
+    ensures { MatchOption result ((next ≤ place → place < count → ⊥))
+        (λ i. (i ≡ place) × ((next ≤ i) × (i < count))) }
+{
+    let i = place as usize;
+    if i < next {
+        return None;
+    }
+    if i < count {
+        return Some(i);
+    }
+    None
 }
 
 // ---- one table
@@ -188,7 +222,18 @@ impl<'a, A: Drop> Part<'a, A> {
             self.left_out += 1;
             return Ok(());
         }
-        if meets {
+        self.push_if(span, annotation, meets)
+    }
+
+    /// Adds a row version, if it is left.
+    fn push_if(&mut self, span: &'a Span, annotation: &'a A, is_left: bool) -> Result<(), NoMemory>
+        ensures spans { OnOk result (part_spans self.new
+            ≡ part_spans self.old ++ n.only is_left span.now) }
+        ensures annotations { OnOk result (part_annotations self.new
+            ≡ part_annotations self.old ++ n.only is_left annotation.now) }
+        ensures left_out { self.new.left_out ≡ self.old.left_out }
+    {
+        if is_left {
             self.spans.push(span)?;
             self.annotations.push(annotation)?;
         }
@@ -241,9 +286,128 @@ impl<'a, A: Drop> Part<'a, A> {
         Ok(part)
     }
 
-    /// Those that matter to a commit. Rows are not tested one by one if a statement leaves none of them, and none stays if more rows would
-    /// than a table may have.
+    /// Those of the row versions at these places that meet the versions and do not stay. All that do so are among them, and the
+    /// places are ascending. What stays is not counted.
+    fn at(
+        alloc: Global,
+        spans: &'a [Span],
+        annotations: &'a [A],
+        table: u32,
+        reach: Reach,
+        t: u32,
+        statements: &[&Stmt],
+        places: &[u32],
+    ) -> Result<Part<'a, A>, NoMemory>
+        requires each { length annotations.now ≡ length spans.now }
+        requires simple { list_all tests_are_simple
+            (map (λ stmt. statement_view stmt.now) statements.now) ≡ true }
+        requires found { HasThose (λ span. n.is_left reach t
+            (map (λ stmt. statement_view stmt.now) statements.now) table span ≡ true)
+            spans.now places.now }
+        requires ascending { AreAscending places.now }
+        ensures { IfOk result (n.IsFound (n.is_left reach t
+            (map (λ stmt. statement_view stmt.now) statements.now) table)
+            spans.now annotations.now) }
+    {
+        let mut part = Part::new(alloc);
+        let mut next = 0usize;
+        for place in places {
+            let Some(i) = unseen(*place, next, spans.len()) else {
+                continue;
+            };
+            let span = &spans[i];
+            let left = is_left(span, reach, t, statements, table);
+            part.push_if(span, &annotations[i], left)?;
+            next = i + 1;
+        }
+        Ok(part)
+    }
+
+    /// Those that matter to a commit, without a pass over all row versions. None where an INSERT into the table counts them, or a
+    /// condition asks for no cell that an index finds, or too many are found.
+    fn found(
+        alloc: Global,
+        spans: &'a [Span],
+        annotations: &'a [A],
+        table: u32,
+        reach: Reach,
+        t: u32,
+        statements: &[&Stmt],
+        finder: &Finder,
+    ) -> Result<Option<Part<'a, A>>, NoMemory>
+        requires each { length annotations.now ≡ length spans.now }
+        requires simple { list_all tests_are_simple
+            (map (λ stmt. statement_view stmt.now) statements.now) ≡ true }
+        requires finder { IsFinder spans.now finder.now }
+        ensures { IfOk result (λ found. IfSome found (IsLeftBy reach t
+            (map (λ stmt. statement_view stmt.now) statements.now) table spans.now annotations.now)) }
+    {
+        if insert_into(statements, table) {
+            return Ok(None);
+        }
+        let Some(cells) = cells_for(alloc, statements, table)? else {
+            return Ok(None);
+        };
+        let wanted = Wanted {
+            first: reach.first,
+            last: reach.last,
+            t,
+            cells: &cells,
+        };
+        let most = spans.len() / FEW;
+        let Some(places) = finder.places(alloc, spans, &wanted, most)? else {
+            return Ok(None);
+        };
+        Ok(Some(Part::at(
+            alloc,
+            spans,
+            annotations,
+            table,
+            reach,
+            t,
+            statements,
+            &places,
+        )?))
+    }
+
+    /// Those that matter to a commit, by the finder of the table, if it has one.
     fn narrow(
+        alloc: Global,
+        spans: &'a [Span],
+        annotations: &'a [A],
+        table: u32,
+        reach: Reach,
+        t: u32,
+        statements: &[&Stmt],
+        finders: &[Finder],
+    ) -> Result<Part<'a, A>, NoMemory>
+        requires each { length annotations.now ≡ length spans.now }
+        requires simple { list_all tests_are_simple
+            (map (λ stmt. statement_view stmt.now) statements.now) ≡ true }
+        requires finder { IfSome (slice_get finders.now table) (IsFinder spans.now) }
+        ensures { IfOk result (IsLeftBy reach t
+            (map (λ stmt. statement_view stmt.now) statements.now) table spans.now annotations.now) }
+    {
+        if let Some(finder) = finders.get(table as usize) {
+            if let Some(part) = Part::found(
+                alloc,
+                spans,
+                annotations,
+                table,
+                reach,
+                t,
+                statements,
+                finder,
+            )? {
+                return Ok(part);
+            }
+        }
+        Part::passed(alloc, spans, annotations, table, reach, t, statements)
+    }
+
+    /// Those that matter to a commit, by a pass over all. Rows are not tested one by one if a statement leaves none of them, and none stays if more rows would
+    /// than a table may have.
+    fn passed(
         alloc: Global,
         spans: &'a [Span],
         annotations: &'a [A],
@@ -328,8 +492,8 @@ impl<'a, A: Drop> Narrowed<'a, A> {
         ensures most { IfOk result (λ whole. whole.most ≡ MAX_TABLE_ROWS) }
     {
         let mut parts = Vec::new(alloc);
-        for (table, own) in versions.iter().enumerate() {
-            parts.push(Part::whole(alloc, own.as_slice(), known.annotations(table))?)?;
+        for (table, spans) in versions.iter().enumerate() {
+            parts.push(Part::whole(alloc, spans.as_slice(), known.annotations(table))?)?;
         }
         Ok(Narrowed {
             parts,
@@ -338,7 +502,7 @@ impl<'a, A: Drop> Narrowed<'a, A> {
         })
     }
 
-    /// The row versions that matter to the commit after a version, by transaction t.
+    /// The row versions that matter to the commit after a version, by transaction t, which has these statements.
     pub fn of_commit(
         alloc: Global,
         log: &Log,
@@ -346,15 +510,20 @@ impl<'a, A: Drop> Narrowed<'a, A> {
         known: &'a Annotated<A>,
         before: u32,
         t: u32,
+        statements: &[&Stmt],
+        finders: &[Finder],
     ) -> Result<Narrowed<'a, A>, NoMemory>
         requires sound { h.IsSound log.now versions.now }
         requires within { before < commits log.now }
         requires maker { t ≡ h.maker log.now before }
         requires known { (table : ℕ) → length (slice_index_or known.now table [])
             ≡ length (spans_of versions.now table) }
+        requires statements { map (λ stmt. statement_view stmt.now) statements.now
+            ≡ n.statements_upto (m.log_of (entries log.now)) t
+            (m.statement_count t (entries log.now)) }
+        requires finders { AreFinders (spans_of versions.now) finders.now }
         ensures { IfOk result (h.IsNarrow log.now versions.now t before known.now) }
     {
-        let statements = statements_of(alloc, log, t)?;
         let reach = reach_of(log, t, before);
         let mut parts = Vec::new(alloc);
         let mut most = MAX_TABLE_ROWS;
@@ -366,9 +535,10 @@ impl<'a, A: Drop> Narrowed<'a, A> {
                 table,
                 reach,
                 t,
-                &statements,
+                statements,
+                finders,
             )?;
-            most = part.room(most, insert_into(&statements, table));
+            most = part.room(most, insert_into(statements, table));
             parts.push(part)?;
         }
         Ok(Narrowed {

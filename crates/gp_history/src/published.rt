@@ -1,29 +1,17 @@
 //! The programs of the tables that a transaction published.
 
 ghost use Rattle.std.specs.Prelude.{◌≡◌, true, IfOk};
-ghost use Rattle.gp_algebra.specs.AnnotatedQueries as q;
 ghost use Rattle.gp_algebra.specs.Fitting.{is_there};
-ghost use Rattle.gp_algebra.specs.QueryViews.{annotated_program_view, annotated_view};
+ghost use Rattle.gp_algebra.specs.QueryViews.{annotated_program_view};
 ghost use Rattle.gp_compose.specs.Composing.{published_in};
 ghost use Rattle.gp_grammar.specs.Syntax as y;
 ghost use Rattle.gp_log.specs.Contents.{HasPoint, StatementsFit, tables};
-ghost use Rattle.gp_history.specs.Changes.{is_scan};
 
-use gp_algebra::{AProgram, AQuery};
+use gp_algebra::AProgram;
 use gp_base::{NoMemory, Stop};
 use gp_compose::published;
 use gp_log::Log;
 use std::alloc::Global;
-
-/// Whether a query is a scan.
-pub fn is_scan(query: &AQuery) -> bool
-    ensures { result ≡ is_scan (annotated_view query.now) }
-{
-    match query {
-        AQuery::Scan { .. } => true,
-        _ => false,
-    }
-}
 
 /// The program of a table that a transaction which made a version published.
 pub fn published_program(alloc: Global, log: &Log, t: u32, table: u32) -> Result<AProgram, NoMemory>

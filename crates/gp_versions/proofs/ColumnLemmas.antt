@@ -40,7 +40,7 @@ index-set [] spans place index all is = tt
 index-set (one ∷ indexes) spans zero index all is = (is, all.1)
 index-set (one ∷ indexes) spans (suc place) index all is = (all.0, index-set indexes spans place index all.1 is)
 
-column-at : (indexes : List ColumnIndex) (place column : ℕ) (index : ColumnIndex) → index ≡ get_or indexes place index → IsSomeAnd (slice_get indexes place) (λ (i : ColumnIndex). i.column ≡ column) → index.column ≡ column
+pub column-at : (indexes : List ColumnIndex) (place column : ℕ) (index : ColumnIndex) → index ≡ get_or indexes place index → IsSomeAnd (slice_get indexes place) (λ (i : ColumnIndex). i.column ≡ column) → index.column ≡ column
 column-at [] place column index is has = absurd has
 column-at (one ∷ indexes) zero column index is has = ap (λ (i : ColumnIndex). i.column) is ∙ has
 column-at (one ∷ indexes) (suc place) column index is has = column-at indexes place column index is has

@@ -1,6 +1,7 @@
 pub mod ChainLemmas
 pub mod ColumnLemmas
 pub mod EndLemmas
+pub mod FinderLemmas
 pub mod HeldLemmas
 pub mod LaterLemmas
 pub mod ListedLemmas

@@ -188,12 +188,12 @@ places-begin p spans low high le others = append-nil (places_where p (take low s
 
 -- ---- spans with a cell
 
-equal-keys : (x y : Cell) → are_equal x y ≡ true → key_of_cell x ≡ key_of_cell y
+pub equal-keys : (x y : Cell) → are_equal x y ≡ true → key_of_cell x ≡ key_of_cell y
 equal-keys (cell.Int a) (cell.Int b) e = ap (λ n. key_of_cell (cell.Int n)) (exact_signed a b (equal_from_is_eq (int_cmp a b) e))
 equal-keys (cell.Text s) (cell.Text t) e = ap (λ n. key_of_cell (cell.Text n)) (exact_bytes s t (equal_from_is_eq (slice_cmp nat_cmp s t) e))
 equal-keys _ _ e = absurd (cc)
 
-mapped-at : {X Y : Type 0} (f : X → Y) (xs : List X) (q : ℕ) (x : X) → slice_get xs q ≡ Some x → slice_get (map f xs) q ≡ Some (f x)
+pub mapped-at : {X Y : Type 0} (f : X → Y) (xs : List X) (q : ℕ) (x : X) → slice_get xs q ≡ Some x → slice_get (map f xs) q ≡ Some (f x)
 mapped-at f [] q x at = absurd (cc)
 mapped-at f (y ∷ xs) zero x at = let e : y ≡ x = cc in ap (λ z. Some (f z)) e
 mapped-at f (y ∷ xs) (suc q) x at = mapped-at f xs q x at

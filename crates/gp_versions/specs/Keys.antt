@@ -1,7 +1,7 @@
 -- Machinery: the keys by which a table finds its spans. That of an identity has the identity's own numbers, and one folded from all numbers of it
 -- and of its sources, in order; that of a cell has its number, or one folded from the bytes of its text. Equal identities and equal cells have equal
 -- keys, and nothing is asked of the keys of others.
-use Rattle.std.specs.Prelude.{ℕ, ◌+◌, ◌*◌, ◌^◌, ◌%◌, List, map, unsigned_abs}
+use Rattle.std.specs.Prelude.{ℕ, ◌+◌, ◌*◌, ◌^◌, ◌%◌, List, map, Option, Some, None, unsigned_abs}
 use Rattle.std.specs.List.{fold}
 use Rattle.gp_base.specs.declared.cell.Cell.{Cell}
 use Rattle.gp_base.specs.declared.cell.Cell.TheVariants as cell
@@ -38,10 +38,21 @@ folded_cell _ = 0
 abbrev pub key_of_cell : Cell → Key
 key_of_cell x = record { t = 0; k = 0; n = 0; folded = folded_cell x }
 
--- the key of a span: of its identity, or of its cell in a column
+-- that of a version, or of a transaction
+abbrev pub key_of_number : ℕ → Key
+key_of_number number = record { t = number; k = 0; n = 0; folded = 0 }
+
+abbrev pub key_of_end : Option ℕ → Key
+key_of_end None = key_of_number 0
+key_of_end (Some to) = key_of_number to
+
+-- the key of a span: of its identity, of its cell in a column, of the version at which it begins or ends, or of the transaction that inserted its row
 abbrev pub key_by : By → Span → Key
 key_by variant.Identity span = key_of span.id
 key_by (variant.Column column) span = key_of_cell (cell_at column span.row)
+key_by variant.Begin span = key_of_number span.from
+key_by variant.End span = key_of_end span.to
+key_by variant.Transaction span = key_of_number (identity_transaction span.id)
 
 abbrev pub keys_by : By → List Span → List Key
 keys_by by_what spans = map (key_by by_what) spans

@@ -1,5 +1,6 @@
 pub mod Chains
 pub mod Commits
+pub mod Finding
 pub mod Listed
 pub mod Places
 pub mod Search

@@ -1,9 +1,10 @@
 //! The spans of a table by their identities, or by their cells in a column.
 
-ghost use Rattle.std.specs.Prelude.{◌≡◌, ℕ, ◌+◌, ◌<◌, IfOk, IfSome, List, OnOk, length, slice_get, take};
+ghost use Rattle.std.specs.Prelude.{◌≡◌, ℕ, ◌+◌, ◌<◌, true, IfOk, IfSome, List, OnOk, length, slice_get, take};
 ghost use Rattle.gp_versions.specs.declared.key.By.TheVariants as variant;
 ghost use Rattle.gp_versions.specs.declared.key.Key as declared;
 ghost use Rattle.gp_versions.specs.Chains.{AreChained, IsChained, IsKeyAt, IsLast, LeadsTo, change_after, entered, ids_of, is_begun};
+ghost use Rattle.gp_versions.specs.Finding.{AreAmong, HasPlaces};
 ghost use Rattle.gp_versions.specs.Keys.{keys_by};
 ghost use Rattle.gp_versions.specs.Places.{holds_with, places_where};
 ghost use Rattle.gp_versions.specs.TableSpans.{AreWhole, NoOverlap, written_after};
@@ -177,5 +178,33 @@ impl Chains {
         }
         found.reverse();
         Ok(Some(found))
+    }
+
+    /// The place before this one in its chain, if there is one.
+    fn before(&self, place: u32) -> Option<u32>
+        ensures { IfSome (slice_get self.now.befores.items place) (λ before. result ≡ before) }
+    {
+        match self.befores.get(place as usize) {
+            Some(before) => *before,
+            None => None,
+        }
+    }
+
+    /// Appends the places of the entered spans with the key. False if there are more places than these then; some of the
+    /// spans are missing in that case.
+    pub fn push_places(&self, found: &mut Vec<u32>, key: Key, most: usize) -> Result<bool, NoMemory>
+        ensures kept { OnOk result (AreAmong found.old.items found.new.items) }
+        ensures all { IfOk result
+            (λ all. all ≡ true → HasPlaces key self.now found.new.items) }
+    {
+        let mut next = self.newest(key);
+        while let Some(place) = next {
+            if found.len() >= most {
+                return Ok(false);
+            }
+            found.push(place)?;
+            next = self.before(place);
+        }
+        Ok(true)
     }
 }

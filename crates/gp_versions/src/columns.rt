@@ -1,11 +1,12 @@
 //! Indexes of the columns of a table.
 
-ghost use Rattle.std.specs.Prelude.{◌≡◌, IfOk, IfSome, IsSomeAnd, slice_get};
+ghost use Rattle.std.specs.Prelude.{◌≡◌, true, IfOk, IfSome, IsSomeAnd, OnOk, slice_get};
 ghost use Rattle.gp_versions.specs.Chains.{AreIndexes, IsIndex};
+ghost use Rattle.gp_versions.specs.Finding.{AreAmong, HasCell};
 ghost use Rattle.gp_versions.specs.Places.{places_with};
 
 use crate::chains::Chains;
-use crate::key::By;
+use crate::key::{By, key_of_cell};
 use crate::places::{InColumn, Sought, push_from};
 use crate::span::Span;
 use gp_base::{Cell, NoMemory};
@@ -108,4 +109,29 @@ pub fn places_with(
         return Ok(None);
     };
     indexes[place].places(alloc, spans, own.cell, v, most)
+}
+
+/// Appends the places of the spans that have the cell in the column. False if no index of the column has all spans, or there
+/// are more places than these then.
+pub fn push_with(
+    indexes: &[ColumnIndex],
+    spans: &[Span],
+    found: &mut Vec<u32>,
+    own: InColumn<'_>,
+    most: usize,
+) -> Result<bool, NoMemory>
+    requires { AreIndexes indexes.now spans.now }
+    ensures kept { OnOk result (AreAmong found.old.items found.new.items) }
+    ensures all { IfOk result (λ all. all ≡ true
+        → HasCell own.entry.column own.entry.cell.now spans.now found.new.items) }
+{
+    let Some(place) = index_of(indexes, own.column) else {
+        return Ok(false);
+    };
+    let index = &indexes[place];
+    if index.chains.len() < spans.len() {
+        return Ok(false);
+    }
+    let key = key_of_cell(own.cell.as_ref());
+    Ok(index.chains.push_places(found, key, most)?)
 }

@@ -1,10 +1,10 @@
-//! Keys of identities and cells, by which a table finds its spans.
+//! Keys of identities, cells, versions and transactions, by which a table finds its spans.
 
 ghost use Rattle.std.specs.Prelude.{◌≡◌};
 ghost use Rattle.std.specs.List.{fold};
 ghost use Rattle.gp_base.specs.CellForms.{cell_view};
 ghost use Rattle.gp_base.specs.IdentityForms.{sources_of};
-ghost use Rattle.gp_versions.specs.Keys.{folded_cell, folded_over, folded_over_all, key_by, key_of, key_of_cell, mixed};
+ghost use Rattle.gp_versions.specs.Keys.{folded_cell, folded_over, folded_over_all, key_by, key_of, key_of_cell, key_of_end, key_of_number, mixed};
 
 use crate::places::cell_at;
 use crate::span::Span;
@@ -32,6 +32,12 @@ pub enum By {
     Identity,
     /// Their cells in this column. Columns count from 1.
     Column(u32),
+    /// The versions at which they begin.
+    Begin,
+    /// The versions at which they end. Open spans have the number 0, at which none ends.
+    End,
+    /// The transactions that inserted their rows.
+    Transaction,
 }
 
 /// One step of a fold.
@@ -107,6 +113,28 @@ pub fn key_of_cell(cell: CellRef<'_>) -> Key
     }
 }
 
+/// The key of a version, or of a transaction.
+pub fn key_of_number(number: u32) -> Key
+    ensures { result ≡ key_of_number number }
+{
+    Key {
+        t: number,
+        k: 0,
+        n: 0,
+        folded: 0,
+    }
+}
+
+/// The key of the end of a span.
+fn key_of_end(to: Option<u32>) -> Key
+    ensures { result ≡ key_of_end to }
+{
+    match to {
+        Some(to) => key_of_number(to),
+        None => key_of_number(0),
+    }
+}
+
 /// The key of a span.
 pub fn key_by(by: By, span: &Span) -> Key
     ensures { result ≡ key_by by span.now }
@@ -114,5 +142,8 @@ pub fn key_by(by: By, span: &Span) -> Key
     match by {
         By::Identity => key_of(&span.id),
         By::Column(column) => key_of_cell(cell_at(&span.row, column)),
+        By::Begin => key_of_number(span.from),
+        By::End => key_of_end(span.to),
+        By::Transaction => key_of_number(span.id.t()),
     }
 }

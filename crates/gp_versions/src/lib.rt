@@ -7,7 +7,8 @@
 //!
 //! In reading order: [`Span`] and [`Write`], the [`Writes`] of a commit, and the [`VersionTable`] with [`AsOf`], the spans
 //! that hold a version; a [`SpanList`] is what code takes that reads versions of a table. `chains.rt` finds the spans of an
-//! identity, `columns.rt` those with a cell, and `current.rt` those that hold the newest versions. The functions of `laws.rt`, as
+//! identity, `columns.rt` those with a cell, and `current.rt` those that hold the newest versions. A [`Finder`] finds spans of a list
+//! that no longer grows. The functions of `laws.rt`, as
 //! [`written_after_is_the_least`], are laws of the definitions in `specs/`, which the contracts cite.
 //!
 //! ```text
@@ -23,6 +24,7 @@ mod chains;
 mod columns;
 mod commit;
 mod current;
+mod finder;
 mod key;
 mod later;
 mod laws;
@@ -34,9 +36,11 @@ mod table;
 mod writes;
 
 pub use as_of::AsOf;
+pub use finder::{Finder, Wanted};
 pub use laws::{
     a_span_ends_at_the_next_write, a_version_has_one_row_of_an_identity, written_after_is_the_least,
 };
+pub use places::InColumn;
 pub use span::{Span, Write};
 pub use span_list::SpanList;
 pub use table::VersionTable;

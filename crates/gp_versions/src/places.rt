@@ -12,7 +12,9 @@ use gp_base::{Cell, CellRef, NoMemory, Row};
 /// A cell in a column. Columns count from 1.
 #[derive(Clone, Copy)]
 pub struct InColumn<'a> {
+    /// The column.
     pub column: u32,
+    /// The cell.
     pub cell: &'a Cell,
 }
 

@@ -10,7 +10,7 @@ use Rattle.gp_history.proofs.agreement.sorted_agree.Goals as goal
 pub returns : goal.returns
 returns g c =
     let own : c.as_slice.result.now ≡ sorted_by row_cmp (map held_key c.args.rows.now) =
-    c.as_slice.ensures.value ∙ c.in_ok-sort_rows.ensures.unique ∙ ap (sorted_by row_cmp) c.in_ok-own.ensures in
+    c.as_slice.ensures.value ∙ c.in_ok-sort_rows.ensures.unique ∙ ap (sorted_by row_cmp) c.in_ok-keys.ensures in
     let expected : c.as_slice-2.result.now ≡ sorted_by row_cmp (keys_of c.args.version (map (λ span. span.now) c.args.spans.now)) =
     c.as_slice-2.ensures.value ∙ c.in_ok-sort_rows-2.ensures.unique ∙ ap (sorted_by row_cmp) c.in_ok-due.ensures in
     c.are_equal.ensures

@@ -1,7 +1,8 @@
-use Rattle.std.proofs.Common.{Global, List, Option, Vec, [], ap, arith, length, subst, suc, sym, ℕ, ◌++◌, ◌+◌, ◌<◌, ◌∷◌, ◌∙◌, ◌≡◌}
+use Rattle.std.proofs.Common.{Global, List, Option, Vec, [], ap, arith, length, map, subst, suc, sym, ℕ, ◌++◌, ◌+◌, ◌<◌, ◌∷◌, ◌∙◌, ◌≡◌}
 use Rattle.std.proofs.lemmas.List.{length-map}
 use Rattle.std.specs.BTreeMap.{BTreeMap}
 use Rattle.gp_base.specs.Identities.{Identity}
+use Rattle.gp_algebra.specs.Views.{statement_view}
 use Rattle.gp_log.specs.LogFacts.{tables_in}
 use Rattle.gp_log.specs.Logs.{log_view}
 use Rattle.gp_machine.specs.Annotating.{annotation_of, computed}
@@ -19,6 +20,12 @@ of_commit-requires-clause-known g c = λ table.
     let spans = spans_of c.args.versions.now in
     ap length (c.requires.known.tables table)
     ∙ length-map (spans table) (λ (span : Span). annotation_of domain span.id (computed domain (log_of entries) spans c.args.before span.from table))
+
+pub of_commit-requires-clause-statements : goal.of_commit-requires-clause-statements
+of_commit-requires-clause-statements g c = ap (map (λ stmt. statement_view stmt.now)) c.deref.ensures.value ∙ c.in_ok-statements.ensures
+
+pub table_change-requires-clause-statements : goal.table_change-requires-clause-statements
+table_change-requires-clause-statements g c = ap (map (λ stmt. statement_view stmt.now)) c.deref-in-loop-table.ensures.value ∙ c.in_ok-statements.ensures
 
 pub returns-in-Err : goal.returns-in-Err
 returns-in-Err g c =

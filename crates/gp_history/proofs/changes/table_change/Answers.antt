@@ -1,19 +1,21 @@
-use Rattle.std.proofs.Common.{Global, List, None, Vec, ap, arith, map, subst, suc, sym, true, ℕ, ◌+◌, ◌∙◌, ◌≡◌}
+use Rattle.std.proofs.Common.{Global, List, None, Some, Vec, ap, arith, map, subst, suc, sym, true, ℕ, ◌+◌, ◌∙◌, ◌≡◌}
 use Rattle.std.specs.List.{list_any}
 use Rattle.std.specs.Prelude.{◌&&◌, not}
-use Rattle.gp_algebra.specs.Statements.{width_of}
+use Rattle.gp_algebra.specs.Statements.{Statement, width_of}
+use Rattle.gp_algebra.specs.Views.{statement_view}
+use Rattle.gp_compose.specs.Composed.{writes}
 use Rattle.gp_compose.specs.Composing.{published_table}
 use Rattle.gp_kexec.specs.declared.held.Held.{Held}
 use Rattle.gp_log.specs.LogFacts.{tables_in}
 use Rattle.gp_log.specs.LogFitting.{SpanFits}
 use Rattle.gp_log.specs.Logs.{log_view}
-use Rattle.gp_machine.specs.Entries.{log_of, version_of}
+use Rattle.gp_machine.specs.Entries.{log_of, statement_count, version_of}
 use Rattle.gp_machine.specs.Points.{version_before}
 use Rattle.gp_machine.specs.Questions.{transaction_refusal}
 use Rattle.gp_reenact.specs.Reenacting.{spans_of}
 use Rattle.gp_versions.specs.declared.span.Span.{Span}
-use Rattle.gp_history.specs.Changes.{FindsRows, is_scan, is_touched, maker_program}
-use Rattle.gp_history.specs.Narrowing.{IsNarrow, narrow_spans}
+use Rattle.gp_history.specs.Changes.{FindsRows, is_touched}
+use Rattle.gp_history.specs.Narrowing.{IsNarrow, narrow_spans, statements_upto}
 use Rattle.gp_history.specs.Noted.{row_view}
 use Rattle.gp_history.proofs.ChangeLemmas.{few_change, kept_few}
 use Rattle.gp_history.proofs.MakerLemmas.{maker_known}
@@ -36,12 +38,11 @@ returns-then-is_untouched g c =
     let narrowed = c.args.narrowed.now in
     let narrow = subst (λ (t : ℕ). IsNarrow (log_of entries) t before (spans_of versions) c.args.known.now narrowed) c.requires.maker c.requires.narrowed in
     let next : suc before ≡ before + 1 = omega arith in
-    let program =
-    c.in_ok-published_program.ensures
-    ∙ ap (λ (t : ℕ). published_table (width_of (tables_in entries)) (log_of entries) t (version_before (version_of t entries)) table) c.requires.maker in
-    let same : (is_scan (maker_program entries before table).last && not (list_any (is_touched (suc before)) (narrow_spans narrowed table))) ≡ true =
-    (λ i. is_scan (sym program i).last && not (list_any (is_touched (next i)) (sym c.spans-spans.ensures i))) ∙ sym c.is_untouched.ensures ∙ c.if-is_untouched.true in
-    kept_few domain image entries versions c.requires.sound before c.requires.within table c.args.known.now c.requires.known narrowed narrow same
+    let statements : List Statement = map (λ stmt. statement_view stmt.now) c.args.statements.now in
+    let are = subst (λ (t : ℕ). statements ≡ statements_upto (log_of entries) t (statement_count t entries)) c.requires.maker c.requires.statements in
+    let same : (not (list_any (λ statement. writes (Some statement) table) statements) && not (list_any (is_touched (suc before)) (narrow_spans narrowed table))) ≡ true =
+    (λ i. not (list_any (λ statement. writes (Some statement) table) statements) && not (list_any (is_touched (next i)) (sym c.spans-spans.ensures i))) ∙ sym c.is_untouched.ensures ∙ c.if-is_untouched.true in
+    kept_few domain image entries versions c.requires.sound before c.requires.within table c.args.known.now c.requires.known narrowed narrow statements are same
 
 pub rows-requires-clause-program : goal.rows-requires-clause-program
 rows-requires-clause-program g c =

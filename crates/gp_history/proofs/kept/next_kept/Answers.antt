@@ -15,7 +15,7 @@ returns-in-Ok g c =
     let entries = log_view c.args.log.now.entries in
     let spans = spans_of c.args.versions.now in
     let next : c.args.kept.version + 1 ≡ suc c.args.kept.version = omega arith in
-    kept_more domain entries spans c.args.kept (record { version = c.args.kept.version + 1; annotated = c.in-Ok.annotated }) c.requires.kept c.requires.more next c.in-Ok.ensures.1 c.in-Ok.ensures.0
+    kept_more domain entries spans c.args.kept (record { version = c.args.kept.version + 1; annotated = c.in-Ok.annotated; finders = c.enter_commit.new.finders }) c.requires.kept c.enter_commit.ensures c.requires.more next c.in-Ok.ensures.1 c.in-Ok.ensures.0
 
 pub returns-in-Err : goal.returns-in-Err
 returns-in-Err g c =

@@ -2,4 +2,4 @@ use Rattle.std.proofs.Common.{◌≡◌, take}
 use Rattle.gp_history.proofs.monomials.cells_of.Given as goal
 
 abbrev pub invariant-loop-i : goal.invariant-loop-i
-invariant-loop-i l = l.own ≡ take l.i l.cells
+invariant-loop-i l = l.copy ≡ take l.i l.cells
