@@ -1,33 +1,18 @@
 -- What is counted is listed again, in order.
-use Rattle.std.proofs.Common.{◌≡◌, ◌≤◌, ◌<◌, ◌+◌, ◌*◌, ℕ, zero, suc, refl, sym, ap, subst, ◌∙◌, arith, T, cond, Bool, true, false, ◌||◌, List, [], ◌∷◌, ◌++◌, length, map, min, replicate}
-use Rattle.std.specs.Prelude.{not, Some}
-use Rattle.std.specs.List.{filter, list_any}
-use Rattle.std.specs.Ordering.{is_le, is_lt}
-use Rattle.std.specs.Cmp.{IsTotalOrder}
+use Rattle.gp_kexec.proofs.Prelude.{◌≡◌, ◌≤◌, ◌<◌, ◌+◌, ℕ, zero, suc, refl, sym, ap, subst, ◌∙◌, arith, T, cond, Bool, true, false, List, [], ◌∷◌, ◌++◌, length, map, min, replicate, not, Some, list_any, is_lt, IsTotalOrder, Ordering, Less, Equal, Greater, is_sorted, below_all, by_order, Token, Cell, Database, Environment, monomials, Monomial, greatest_count, Program, Derived, program_meaning, Element, answer, IsHomomorphism, Select, raised, added, summed, Each, first, second, less, below_less, monomial_value}
+use Rattle.std.proofs.Common.{◌*◌, ◌||◌}
+use Rattle.std.specs.List.{filter}
+use Rattle.std.specs.Ordering.{is_le}
 use Rattle.std.proofs.lemmas.Cmp.{tied_itself}
-use Rattle.std.specs.declared.cmp.Ordering.{Ordering}
-use Rattle.std.specs.declared.cmp.Ordering.TheVariants.{Less, Equal, Greater}
-use Rattle.std.specs.FinMap.{is_sorted}
-use Rattle.std.specs.FinMap.Entries.{below_all, by_order}
-use Rattle.gp_base.specs.declared.token.Token.{Token}
-use Rattle.gp_base.specs.declared.cell.Cell.{Cell}
-use Rattle.gp_base.specs.Annotated.{Database, Environment, monomials}
 use Rattle.gp_base.specs.Order.{insert_sorted, sorted_by}
-use Rattle.gp_base.specs.Tokens.{Monomial, greatest_count}
-use Rattle.gp_algebra.specs.AnnotatedQueries.{Program}
-use Rattle.gp_algebra.specs.AnnotatedMeaning.{Derived, program_meaning}
-use Rattle.gp_algebra.specs.Answers.{Element, answer, cells_of, pairs_of as element_pairs}
-use Rattle.gp_algebra.specs.Reannotation.{IsHomomorphism}
-use Rattle.gp_algebra.specs.Statements.{Select}
+use Rattle.gp_algebra.specs.Answers.{cells_of, pairs_of as element_pairs}
 use Rattle.gp_semiring.specs.Elements.{no_token, number_up_to}
 use Rattle.gp_semiring.specs.Numbers.{Same}
-use Rattle.gp_semiring.specs.Powers.{raised}
-use Rattle.gp_semiring.specs.Sums.{added, summed, plus_up_to, times_up_to}
-use Rattle.gp_semiring.specs.SumForms.{Each}
-use Rattle.gp_semiring.specs.SumLaws.{both, first, second, less, below_less, is_sorted-summed, value, value_summed}
+use Rattle.gp_semiring.specs.Sums.{plus_up_to, times_up_to}
+use Rattle.gp_semiring.specs.SumLaws.{both, is_sorted-summed, value, value_summed}
 use Rattle.gp_semiring.specs.declared.rules.Rule.{Rule}
 use Rattle.gp_semiring.specs.Rules.{fits_rule, number_by}
-use Rattle.gp_semiring.specs.Values.{monomial_value, token_value, value_by}
+use Rattle.gp_semiring.specs.Values.{token_value, value_by}
 use Rattle.gp_kexec.specs.Valuing.{values_as_annotations}
 use Rattle.gp_kexec.specs.SemiringForms.{derived_reannotated, environment_reannotated}
 use Rattle.gp_kexec.specs.Rows.{pairs_of}

@@ -1,21 +1,12 @@
 -- Leaving rows out before a query or a statement, or after it.
-use Rattle.std.proofs.Common.{◌≡◌, ℕ, suc, refl, sym, ap, ◌∙◌, cond, Bool, true, false, List, [], ◌∷◌, ◌++◌, map, min, ◌+◌}
-use Rattle.std.specs.Prelude.{◌||◌, ◌==◌, not, ◌&&◌}
-use Rattle.std.specs.List.{filter, flat_map}
-use Rattle.std.specs.declared.cmp.Ordering.TheVariants.{Less, Equal, Greater}
-use Rattle.std.specs.FinMap.Entries.{by_order}
-use Rattle.gp_base.specs.declared.token.Token.{Token}
+use Rattle.gp_kexec.proofs.Prelude.{◌≡◌, ℕ, suc, refl, sym, ap, ◌∙◌, cond, Bool, true, false, List, [], ◌∷◌, ◌++◌, map, min, ◌+◌, ◌||◌, ◌==◌, not, ◌&&◌, flat_map, Less, Equal, Greater, by_order, Token, Annotations, Annotated, Database, monomials, Monomial, greatest_count, times, times_from, token_cmp, token_cmp-exact, passes, Select, Element, answer, values, given_from, filter-append, filter-map, filter_agree}
+use Rattle.std.specs.List.{filter}
 use Rattle.gp_base.specs.declared.token.Token.TheVariants.{Updated}
-use Rattle.gp_base.specs.Annotated.{Annotations, Annotated, Database, monomials}
-use Rattle.gp_base.specs.Tokens.{Monomial, greatest_count, times, times_from, token_cmp}
-use Rattle.gp_base.specs.TokenOrder.{token_cmp-exact}
-use Rattle.gp_expr.specs.Values.{passes}
-use Rattle.gp_algebra.specs.Statements.{Branch, Select, Statement, insert, insert_select, update, delete, read}
-use Rattle.gp_algebra.specs.Answers.{Element, answer, answer_from, choices, chosen, joined, no_choice, passes_where, values}
-use Rattle.gp_algebra.specs.Effects.{assigned, changed, given_from, made, step, with_rows}
+use Rattle.gp_algebra.specs.Statements.{Branch, Statement, insert, insert_select, update, delete, read}
+use Rattle.gp_algebra.specs.Answers.{answer_from, choices, chosen, joined, no_choice, passes_where}
+use Rattle.gp_algebra.specs.Effects.{assigned, changed, made, step, with_rows}
 use Rattle.gp_kexec.specs.Deletion.{has_token, reduced}
 use Rattle.gp_kexec.specs.DeletionForms.{Finds}
-use Rattle.gp_base.proofs.SmallLemmas.{filter-append, filter-map, filter_agree}
 use Rattle.std.proofs.lemmas.Bool.{both_ways}
 
 early : {X Y : Type 0} (p : Y → Bool) (q : X → Bool) (f : X → List Y) → ((x : X) → q x ≡ false → filter p (f x) ≡ []) → (xs : List X) → filter p (flat_map f xs) ≡ flat_map (λ x. cond (q x) (filter p (f x)) []) xs

@@ -1,29 +1,11 @@
 -- The value of a row of a program is the sum over its occurrences of the values of their monomials.
-use Rattle.std.proofs.Common.{◌≡◌, ℕ, refl, sym, ap, ◌∙◌, cond, Some, None, List, [], ◌∷◌, map}
-use Rattle.std.specs.Prelude.{◌||◌}
-use Rattle.std.specs.FinMap.{find}
-use Rattle.std.specs.List.{list_any}
-use Rattle.std.specs.Ordering.{eq_by_cmp}
-use Rattle.gp_base.specs.declared.cell.Cell.{Cell}
-use Rattle.gp_base.specs.declared.token.Token.{Token}
-use Rattle.gp_base.specs.Annotated.{Annotated, Environment, monomials}
-use Rattle.gp_base.specs.Order.{row_cmp}
-use Rattle.gp_base.specs.Tokens.{Monomial}
-use Rattle.gp_base.specs.MonomialForms.{IsMonomial}
-use Rattle.gp_algebra.specs.AnnotatedQueries.{Program}
-use Rattle.gp_algebra.specs.AnnotatedMeaning.{Derived, program_meaning}
-use Rattle.gp_algebra.specs.Reannotation.{reannotated}
-use Rattle.gp_semiring.specs.Semirings.{SemiringLaws}
-use Rattle.gp_semiring.specs.Sums.{summed}
-use Rattle.gp_semiring.specs.SumForms.{Each}
+use Rattle.gp_kexec.proofs.Prelude.{◌≡◌, ℕ, refl, sym, ap, ◌∙◌, cond, List, [], ◌∷◌, map, ◌||◌, find, list_any, eq_by_cmp, Cell, Token, Annotated, Environment, monomials, row_cmp, Monomial, IsMonomial, Program, Derived, program_meaning, reannotated, SemiringLaws, summed, Each, monomial_value, monomial_value-in, row_cmp_total, exact_rows}
+use Rattle.std.proofs.Common.{Some, None}
 use Rattle.gp_semiring.specs.Totals.{total_at}
 use Rattle.gp_semiring.proofs.TotalLemmas.{find-summed}
-use Rattle.gp_semiring.specs.Values.{monomial_value}
 use Rattle.gp_kexec.specs.Valuing.{values_as_annotations}
-use Rattle.gp_semiring.proofs.MonomialValues.{monomial_value-in}
 use Rattle.gp_kexec.specs.InSemiring.{in_semiring}
 use Rattle.gp_kexec.specs.SemiringForms.{NoneStops, counted, derived_reannotated, environment_reannotated, spread, word_value, words}
-use Rattle.gp_base.specs.RowOrder.{row_cmp_total, exact_rows}
 use Rattle.gp_kexec.specs.Rows.{pairs_of}
 use Rattle.gp_kexec.proofs.CarryLemmas.{program_carried}
 use Rattle.gp_kexec.proofs.WordLemmas.{counted_carries, counted_spread, value_of_counted, word_carries, word_spread}

@@ -1,19 +1,8 @@
 -- The value of a row in witnesses, where each token is its own set, is the minimal ones of the token sets of its monomials.
-use Rattle.std.proofs.Common.{◌≡◌, ◌≤◌, ℕ, zero, suc, refl, sym, ap, ◌∙◌, arith, cond, Bool, true, false, List, [], ◌∷◌}
-use Rattle.std.specs.Prelude.{◌||◌, ◌&&◌}
-use Rattle.std.specs.List.{list_all}
-use Rattle.std.specs.Ordering.{eq_by_cmp}
-use Rattle.gp_base.specs.declared.cell.Cell.{Cell}
-use Rattle.gp_base.specs.declared.token.Token.{Token}
-use Rattle.gp_base.specs.Order.{row_cmp}
-use Rattle.gp_base.specs.Tokens.{Monomial, token_cmp}
-use Rattle.gp_base.specs.TokenOrder.{token_cmp_total, token_cmp-exact}
-use Rattle.gp_semiring.specs.Powers.{raised}
-use Rattle.gp_semiring.specs.SumForms.{Each}
+use Rattle.gp_kexec.proofs.Prelude.{◌≡◌, ◌≤◌, ℕ, zero, suc, refl, sym, ap, ◌∙◌, arith, cond, Bool, true, false, List, [], ◌∷◌, ◌||◌, ◌&&◌, list_all, eq_by_cmp, Cell, Token, row_cmp, Monomial, token_cmp, token_cmp_total, token_cmp-exact, raised, Each, monomial_value}
 use Rattle.gp_semiring.specs.Witnesses.{Sets, set_of, witness_of, witness_plus, witness_times}
 use Rattle.gp_semiring.specs.WitnessForms.{IsRising, IsWitness}
 use Rattle.gp_semiring.specs.WitnessLaws.{holds, same_witness, holds_plus, holds_times, holds_witness, witness_in, plus_in, times_in, one_in, none_in, rising_set, all_set}
-use Rattle.gp_semiring.specs.Values.{monomial_value}
 use Rattle.gp_kexec.specs.InSemiring.{in_semiring}
 use Rattle.gp_kexec.specs.Minimal.{token_sets, tokens_of}
 use Rattle.gp_base.proofs.SmallLemmas.{and_nothing}

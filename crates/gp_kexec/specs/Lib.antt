@@ -5,6 +5,7 @@ pub mod Forms
 pub mod Grouping
 pub mod InSemiring
 pub mod Joins
+pub mod Keys
 pub mod Publishing
 pub mod Rows
 pub mod Running

@@ -37,11 +37,12 @@ fn monomial_of(alloc: Global, row: &Row) -> Result<Monomial, NoMemory>
 }
 
 /// Whether an occurrence is of the row.
-fn has_cells(alloc: Global, cells: &Row, row: &Row) -> Result<bool, NoMemory>
-    ensures { IfOk result (λ yes. yes ≡ l.has_cells cells.now row.now) }
+fn has_cells(cells: &Row, row: &Row) -> bool
+    ensures { result ≡ l.has_cells cells.now row.now }
 {
-    let own = cells_of(alloc, row)?;
-    Ok(cells.cmp(&own) == Ordering::Equal)
+    let own = row.cells();
+    let count = own.len().saturating_sub(1);
+    cells.cells().cmp(&own[..count]) == Ordering::Equal
 }
 
 /// The row of an occurrence, with its monomial.
@@ -65,7 +66,7 @@ fn add(
 ) -> Result<(), NoMemory>
     ensures { OnOk result (forms.Adds done.old current.old row.now done.new current.new) }
 {
-    if has_cells(alloc, &current.row, row)? {
+    if has_cells(&current.row, row) {
         current.monomials.push(monomial_of(alloc, row)?)?;
     } else {
         let closed = mem::replace(current, opened(alloc, row)?);
