@@ -11,10 +11,10 @@ use Rattle.gp_versions.specs.Places.{are_equal, cell_at, holds_with, places_at, 
 use Rattle.gp_versions.specs.Spans.{holds_at}
 use Rattle.gp_txn.specs.declared.overlay.Placed.{Placed}
 use Rattle.gp_txn.specs.declared.overlay.Slot.{Slot}
-use Rattle.gp_txn.specs.declared.overlay.Slot.TheVariants.{Same}
+use Rattle.gp_txn.specs.declared.overlay.Slot.TheVariants.{Same, Put, Dropped}
 use Rattle.gp_txn.specs.Ascending.{IsAscending, place_of}
-use Rattle.gp_txn.specs.Enough.{IsEnough, is_among}
-use Rattle.gp_txn.specs.Equating.{Equates}
+use Rattle.gp_txn.specs.Enough.{IsEnough, is_among, passes_in}
+use Rattle.gp_txn.specs.Equating.{Equates, found_slots, puts_cell}
 use Rattle.gp_txn.specs.Merging.{merged}
 use Rattle.gp_txn.specs.Overlay.{slot_at}
 use Rattle.gp_txn.proofs.MergingLemmas.{merged-ascending, none-merged}
@@ -63,16 +63,30 @@ where-fails p (first ∷ spans) (suc place) span at none = where-fails p spans p
 
 -- ---- slots
 
-slot_if : (b : Bool) (slot other : Slot) → (b || false) ≡ false → other ≡ Same → (if b then slot else other) ≡ Same
-slot_if true slot other none is = absurd (cc)
-slot_if false slot other none is = is
+module _ (n : ℕ) (x : Cell) (place : ℕ) where
+  unfound-one : (first : Placed) (found others : List Placed) (b e : Bool) → puts_cell n x first.slot ≡ b → (first.place == place) ≡ e → is_among (map place_of (if b then first ∷ found else found)) place ≡ false
+      → (is_among (map place_of found) place ≡ false → puts_cell n x (slot_at place others) ≡ false) → puts_cell n x (if e then first.slot else slot_at place others) ≡ false
+  unfound-one first found others true true is-b is-e none rest = absurd (let no : true ≡ false = sym is-e ∙ (or_parts (first.place == place) (is_among (map place_of found) place) none).0 in cc)
+  unfound-one first found others true false is-b is-e none rest = rest (or_parts (first.place == place) (is_among (map place_of found) place) none).1
+  unfound-one first found others false true is-b is-e none rest = is-b
+  unfound-one first found others false false is-b is-e none rest = rest none
 
--- a row at another place is unwritten
-pub slot-none : (placed : List Placed) (place : ℕ) → is_among (map place_of placed) place ≡ false → slot_at place placed ≡ Same
-slot-none [] place none = refl
-slot-none (first ∷ others) place none =
-    let parts = or_parts (first.place == place) (is_among (map place_of others) place) none in
-    slot_if (first.place == place) first.slot (slot_at place others) (ap (λ (b : Bool). b || false) parts.0) (slot-none others place parts.1)
+  -- no equal cell was put into a row at another place
+  slot-unfound : (placed : List Placed) → is_among (map place_of (found_slots n x placed)) place ≡ false → puts_cell n x (slot_at place placed) ≡ false
+  slot-unfound [] none = refl
+  slot-unfound (first ∷ others) none = unfound-one first (found_slots n x others) others (puts_cell n x first.slot) (first.place == place) refl refl none (slot-unfound others)
+
+all-found : (n : ℕ) (x : Cell) (place : ℕ) (placed : List Placed) → AllByRecursion (λ other. place < other) (map place_of placed) → AllByRecursion (λ other. place < other) (map place_of (found_slots n x placed))
+all-found n x place [] all = tt
+all-found n x place (first ∷ others) all =
+    let rest = all-found n x place others all.1 in
+    elim (puts_cell n x first.slot) as (λ b. AllByRecursion (λ other. place < other) (map place_of (if b then first ∷ found_slots n x others else found_slots n x others))) [ true ↦ (all.0, rest) | false ↦ rest ]
+
+found-ascending : (n : ℕ) (x : Cell) (placed : List Placed) → IsAscending (map place_of placed) → IsAscending (map place_of (found_slots n x placed))
+found-ascending n x [] up = tt
+found-ascending n x (first ∷ others) up =
+    let rest = found-ascending n x others up.1 in
+    elim (puts_cell n x first.slot) as (λ b. IsAscending (map place_of (if b then first ∷ found_slots n x others else found_slots n x others))) [ true ↦ (all-found n x first.place others up.0, rest) | false ↦ rest ]
 
 -- ---- places that are enough
 
@@ -92,20 +106,28 @@ test_fails true false true is fails from = absurd (let no : false ≡ true = fro
 test_fails true false false is fails from = refl
 test_fails false b c is fails from = absurd (cc)
 
--- those of an index and those of the slots
+-- what is not equal does not pass
+unequal-fails : (n : ℕ) (x : Cell) (cond : Cond) (row : List Cell) (b : Bool) → Equates n x cond → passes cond row ≡ b → are_equal (cell_at n row) x ≡ false → passes cond row ≡ false
+unequal-fails n x cond row true equates is none = absurd (let no : true ≡ false = sym (equates.equal row is) ∙ none in cc)
+unequal-fails n x cond row false equates is none = is
+
+slot-fails : (n : ℕ) (x : Cell) (cond : Cond) (slot : Slot) (row : List Cell) → Equates n x cond → puts_cell n x slot ≡ false → passes cond row ≡ false → passes_in (passes cond) slot row ≡ false
+slot-fails n x cond Same row equates none fails = fails
+slot-fails n x cond (Put now) row equates none fails = unequal-fails n x cond now (passes cond now) equates refl none
+slot-fails n x cond Dropped row equates none fails = refl
+
+-- those of an index, and those of the rows into which an equal cell was put
 pub enough-found : (cond : Cond) (n : ℕ) (x : Cell) (placed : List Placed) (v : ℕ) (spans : List Span) (found places : List ℕ) → Equates n x cond → IsAscending (map place_of placed)
-    → found ≡ places_with v n x spans → places ≡ merged (map place_of placed) found → IsEnough (passes cond) placed v spans places
+    → found ≡ places_with v n x spans → places ≡ merged (map place_of (found_slots n x placed)) found → IsEnough (passes cond) placed v spans places
 enough-found cond n x placed v spans found places equates up is-found is =
-    let written = map place_of placed in
+    let written = map place_of (found_slots n x placed) in
     let with = places_with v n x spans in
     let all : IsEnough (passes cond) placed v spans (merged written with) = record {
-      ascending = merged-ascending written with up (where-ascending (holds_with v n x) spans);
+      ascending = merged-ascending written with (found-ascending n x placed up) (where-ascending (holds_with v n x) spans);
       others = λ place span at holds none.
-          let apart = none-merged written with place none in (
-            slot-none placed place apart.0,
-            test_fails (holds_at v span) (are_equal (cell_at n span.row) x) (passes cond span.row) holds
-                (where-fails (holds_with v n x) spans place span at apart.1) (equates.equal span.row),
-          );
+          let apart = none-merged written with place none in
+          slot-fails n x cond (slot_at place placed) span.row equates (slot-unfound n x place placed apart.0)
+          (test_fails (holds_at v span) (are_equal (cell_at n span.row) x) (passes cond span.row) holds (where-fails (holds_with v n x) spans place span at apart.1) (equates.equal span.row));
     } in
     let P : List ℕ → Type 0 = IsEnough (passes cond) placed v spans in
     subst P (sym (is ∙ ap (merged written) is-found)) all

@@ -3,7 +3,7 @@ use Rattle.std.proofs.Common.{◌≡◌, ℕ, zero, suc, ◌+◌, ◌<◌, ◌�
 use Rattle.std.specs.List.{cons_option, filter, filter_map, flat_map, AllByRecursion}
 use Rattle.std.specs.Option.{option_and_then, option_map}
 use Rattle.std.proofs.lemmas.Bool.{cases_lt, le-ltb, lt-leb, lt-ltb, or_from, or_parts}
-use Rattle.std.proofs.lemmas.List.{append_assoc, length-append}
+use Rattle.std.proofs.lemmas.List.{append_assoc}
 use Rattle.std.proofs.lemmas.Option.{slice_get_past}
 use Rattle.gp_base.specs.declared.cell.Cell.{Cell}
 use Rattle.gp_base.proofs.SmallLemmas.{eq_itself, eq_turned, left_true, not_eq}
@@ -18,7 +18,7 @@ use Rattle.gp_txn.specs.declared.overlay.Slot.{Slot}
 use Rattle.gp_txn.specs.declared.overlay.Slot.TheVariants.{Same}
 use Rattle.gp_txn.specs.declared.overlay.TableWrites.{TableWrites}
 use Rattle.gp_txn.specs.Ascending.{IsAscending, place_of}
-use Rattle.gp_txn.specs.Enough.{IsEnough, first_at, if_slotted, is_among, seek, slotted_at}
+use Rattle.gp_txn.specs.Enough.{IsEnough, first_at, if_slotted, is_among, passes_in, seek, slotted_at}
 use Rattle.gp_txn.specs.Overlay.{PlainRow, base_writes, has_slot, head_slot, is_carried, overlaid, overlay_of, shown, slot_at, slot_write, slots_from, slotted_spans}
 use Rattle.gp_txn.specs.Passes.{of_entry, made_of_place, made_of_slot}
 use Rattle.gp_txn.proofs.PairLemmas.{all-weaker}
@@ -49,16 +49,7 @@ writes-same slots (row ∷ rows) all = let parts = same-parts slots all in λ i.
 
 -- ---- slots by place
 
--- only the slots from the first place on matter
-pub slots-agree : (carried : List Carried) (version : ℕ) (xs ys : List Placed) (place : ℕ) (spans : List Span) → ((p : ℕ) → place ≤ p → slot_at p xs ≡ slot_at p ys)
-    → slots_from carried version xs place spans ≡ slots_from carried version ys place spans
-slots-agree carried version xs ys place [] same = refl
-slots-agree carried version xs ys place (span ∷ spans) same =
-    let rest = slots-agree carried version xs ys (suc place) spans (λ p late. same p (omega (arith, late))) in
-    let here = same place (omega arith) in
-    λ i. cond (has_slot carried version span) (here i ∷ rest i) (rest i)
-
-pub above-none : (place : ℕ) (placed : List Placed) → AllByRecursion (λ (one : Placed). place < one.place) placed → slot_at place placed ≡ Same
+above-none : (place : ℕ) (placed : List Placed) → AllByRecursion (λ (one : Placed). place < one.place) placed → slot_at place placed ≡ Same
 above-none place [] all = refl
 above-none place (one ∷ others) all = ap (λ b. cond b one.slot (slot_at place others)) (eq_turned place one.place (not_eq place one.place all.0)) ∙ above-none place others all.1
 
@@ -144,15 +135,13 @@ module _ {X : Type 0} (make : ℕ → Slot → Span → List X) (carried : List 
         all-weaker-none [] = tt
         all-weaker-none (place ∷ some) = (omega arith, all-weaker-none some)
 
-    made-slotted : (test : List Cell → Bool) (p : ℕ) (span : Span) → ((p : ℕ) (span : Span) → test span.row ≡ false → make p Same span ≡ [])
-        → (holds_at version span ≡ true → (slot_at p placed ≡ Same) × (test span.row ≡ false)) → (b : Bool) → has_slot carried version span ≡ b → made_of_slot (make p) (slot_at p placed) (cond b (Some span) None) ≡ []
-    made-slotted test p span nothing is true has =
-        let parts = is (left_true (holds_at version span) (not (is_carried carried span.id)) has) in
-        ap (λ slot. make p slot span) parts.0 ∙ nothing p span parts.1
+    made-slotted : (test : List Cell → Bool) (p : ℕ) (span : Span) → ((p : ℕ) (slot : Slot) (span : Span) → passes_in test slot span.row ≡ false → make p slot span ≡ [])
+        → (holds_at version span ≡ true → passes_in test (slot_at p placed) span.row ≡ false) → (b : Bool) → has_slot carried version span ≡ b → made_of_slot (make p) (slot_at p placed) (cond b (Some span) None) ≡ []
+    made-slotted test p span nothing is true has = nothing p (slot_at p placed) span (is (left_true (holds_at version span) (not (is_carried carried span.id)) has))
     made-slotted test p span nothing is false has = refl
 
-    -- where nothing is made of rows that were not written and do not pass a test
-    pub made-places : (test : List Cell → Bool) (places : List ℕ) → ((p : ℕ) (span : Span) → test span.row ≡ false → make p Same span ≡ []) → IsEnough test placed version spans places
+    -- where nothing is made of rows that are seen not to pass a test
+    pub made-places : (test : List Cell → Bool) (places : List ℕ) → ((p : ℕ) (slot : Slot) (span : Span) → passes_in test slot span.row ≡ false → make p slot span ≡ []) → IsEnough test placed version spans places
         → flat_map here_at places ≡ made_from placed 0 spans
     made-places test places nothing enough =
         made-enough places enough.ascending
@@ -225,9 +214,9 @@ module _ {X : Type 0} (make : Slot → Span → List X) (carried : List Carried)
   entries-made same ascend = made-entries make carried version spans placed same ascend ∙ made-dense make carried version placed 0 spans
 
   -- and so does one over places that are enough
-  pub places-made : (test : List Cell → Bool) (places : List ℕ) → ((span : Span) → test span.row ≡ false → make Same span ≡ []) → IsEnough test placed version spans places
+  pub places-made : (test : List Cell → Bool) (places : List ℕ) → ((slot : Slot) (span : Span) → passes_in test slot span.row ≡ false → make slot span ≡ []) → IsEnough test placed version spans places
       → flat_map (made_of_place (anywhere make) carried version placed spans) places ≡ made_of make (slots_from carried version placed 0 spans) (slotted_spans carried version spans)
-  places-made test places nothing enough = made-places (anywhere make) carried version placed spans test places (λ p span none. nothing span none) enough ∙ made-dense make carried version placed 0 spans
+  places-made test places nothing enough = made-places (anywhere make) carried version placed spans test places (λ p slot span none. nothing slot span none) enough ∙ made-dense make carried version placed 0 spans
 
 -- ---- after a commit
 
@@ -325,11 +314,29 @@ module _ (placed ahead : List Placed) (place : ℕ) (places list : List ℕ) (is
   pub ahead-more : IsAhead placed (seek place ahead) places
   ahead-more = record { slots = seek-ascend place ahead first-held.slots; ascend = first-held.ascend.1; same = later-same places first-held.ascend.0 first-held.same.1 }
 
+-- ---- the slots from a place on
+
+pub seek-few : (place : ℕ) (placed : List Placed) → length (seek place placed) ≤ length placed
+seek-few place [] = omega arith
+seek-few place (one ∷ others) =
+    let rest = seek-few place others in
+    elim (nat_lt one.place place) as (λ b. length (cond b (seek place others) (one ∷ others)) ≤ length (one ∷ others)) [ true ↦ omega (arith, rest) | false ↦ omega arith ]
+
+-- those before them are at places below
+pub seek-front : (place : ℕ) (front back : List Placed) → length front + length (seek place (front ++ back)) ≡ length (front ++ back) → AllByRecursion (λ (one : Placed). one.place < place) front
+seek-front place [] back is = tt
+seek-front place (one ∷ front) back is =
+    (elim (cases_lt one.place place) [
+      | inl low ↦ (
+        low,
+        seek-front place front back
+            (let here = ap (λ b. length (cond b (seek place (front ++ back)) (one ∷ (front ++ back)))) (lt-ltb one.place place low) in omega (arith, here, is)),
+      )
+      | inr high ↦ absurd (let here = ap (λ b. length (cond b (seek place (front ++ back)) (one ∷ (front ++ back)))) (le-ltb one.place place high) in omega (arith, here, is))
+    ])
+
 -- ---- a turn of a pass over places
 
 module _ {X : Type 0} (F : ℕ → List X) (place : ℕ) (places list : List ℕ) (is : list ≡ place ∷ places) where
   pub pass-more : (done made : List X) → made ≡ F place → (done ++ made) ++ flat_map F places ≡ done ++ flat_map F list
   pass-more done made same = append_assoc done made (flat_map F places) ∙ ap (λ xs. done ++ (xs ++ flat_map F places)) same ∙ ap (λ some. done ++ flat_map F some) (sym is)
-
-  pub pass-count : (count more : ℕ) → more ≡ length (F place) → (count + more) + length (flat_map F places) ≡ count + length (flat_map F list)
-  pass-count count more same = omega (arith, same, ap (λ some. length (flat_map F some)) is, length-append (F place) (flat_map F places))

@@ -1,8 +1,8 @@
 -- How many rows a transaction sees of a table at most: one for each row version, and those that it wrote.
-use Rattle.std.proofs.Common.{◌≡◌, ℕ, ◌+◌, ◌≤◌, Bool, true, false, cond, not, List, [], ◌∷◌, ◌++◌, drop, length, map, Some, None, ap, sym, ◌∙◌, arith}
+use Rattle.std.proofs.Common.{◌≡◌, ℕ, ◌+◌, ◌-◌, ◌≤◌, Bool, true, false, cond, not, Option, List, [], ◌∷◌, ◌++◌, drop, length, map, Some, None, ap, sym, ◌∙◌, arith}
 use Rattle.std.specs.List.{cons_option, filter, filter_map}
-use Rattle.std.specs.Option.{option_map}
-use Rattle.std.proofs.lemmas.Bool.{eq-eqb, le-ltb}
+use Rattle.std.specs.Option.{IfSome, SomeIff, option_map}
+use Rattle.std.proofs.lemmas.Bool.{eq-eqb}
 use Rattle.std.proofs.lemmas.List.{length-append}
 use Rattle.gp_base.specs.declared.limit.TheConstants.{MAX_TABLE_ROWS}
 use Rattle.gp_base.specs.Annotated.{unannotated}
@@ -13,7 +13,6 @@ use Rattle.gp_versions.proofs.ListedLemmas.{at-few}
 use Rattle.gp_txn.specs.declared.carried.Carried.{Carried}
 use Rattle.gp_txn.specs.declared.overlay.Slot.{Slot}
 use Rattle.gp_txn.specs.Bases.{refreshed, table_view}
-use Rattle.gp_txn.specs.Inserting.{are_many}
 use Rattle.gp_txn.specs.Overlay.{Overlay, PlainRow, carried_row, head_slot, is_carried, overlaid, own_row, rows_below, shown, slotted, view_rows}
 use Rattle.gp_txn.proofs.ViewLemmas.{length-shown}
 
@@ -53,10 +52,16 @@ view-few writes spans =
       length-map own_row writes.own,
     )
 
--- a few rows more are not too many
-pub room-enough : (version : ℕ) (writes : Overlay) (spans : List Span) (more : ℕ) → writes.version ≡ version → length spans + length writes.carried + length writes.own + more ≤ MAX_TABLE_ROWS
-    → not (are_many (length (table_view writes spans version)) more) ≡ true
-room-enough version writes spans more same room =
-    ap (λ b. not (are_many (length (cond b (view_rows writes (rows_at unannotated version spans)) (refreshed writes (rows_below writes spans) (rows_at unannotated version spans)))) more)) (eq-eqb version writes.version (sym same))
-    ∙ ap (λ v. not (are_many (length (view_rows writes (rows_at unannotated v spans))) more)) (sym same)
-    ∙ ap not (le-ltb MAX_TABLE_ROWS (length (view_rows writes (rows_below writes spans)) + more) (omega (arith, view-few writes spans, room)))
+-- over the version that the writes lie over
+pub view-at-few : (version : ℕ) (writes : Overlay) (spans : List Span) → writes.version ≡ version → length (table_view writes spans version) ≤ length spans + length writes.carried + length writes.own
+view-at-few version writes spans same =
+    let is : length (table_view writes spans version) ≡ length (view_rows writes (rows_below writes spans)) =
+    ap (λ b. length (cond b (view_rows writes (rows_at unannotated version spans)) (refreshed writes (rows_below writes spans) (rows_at unannotated version spans)))) (eq-eqb version writes.version (sym same))
+    ∙ ap (λ v. length (view_rows writes (rows_at unannotated v spans))) (sym same) in
+    omega (arith, is, view-few writes spans)
+
+-- the room that is left, where there are at most so many old rows and so many that were written
+pub left-room : (left : Option ℕ) (old room written count : ℕ) → SomeIff left (written ≤ room) (room - written) → (old ≤ MAX_TABLE_ROWS) × (room ≡ MAX_TABLE_ROWS - old) → count ≤ old + written
+    → IfSome left (λ more. more + count ≤ MAX_TABLE_ROWS)
+left-room None old room written count is fits few = tt
+left-room (Some more) old room written count is fits few = omega (arith, is.0, is.1, fits.0, fits.1, few)

@@ -1,5 +1,5 @@
 -- Loops that make the rows that a transaction sees, and that count them.
-use Rattle.std.proofs.Common.{◌≡◌, ℕ, ◌+◌, cond, List, [], ◌∷◌, ◌++◌, map, drop, length, refl, ap, sym, ◌∙◌, arith, Option, None}
+use Rattle.std.proofs.Common.{◌≡◌, ℕ, ◌+◌, true, false, cond, List, [], ◌∷◌, ◌++◌, map, drop, length, refl, ap, sym, ◌∙◌, arith, Option, None}
 use Rattle.std.specs.List.{filter_map, flat_map}
 use Rattle.std.proofs.lemmas.List.{map-append, append_assoc, length-append}
 use Rattle.std.proofs.lemmas.List.Elements.{filter-append}
@@ -16,7 +16,7 @@ use Rattle.gp_txn.specs.Overlay.{Overlay, PlainRow, carried_row, head_slot, show
 use Rattle.gp_txn.specs.Slots.{dropped_count}
 use Rattle.gp_txn.specs.declared.overlay.Placed.{Placed}
 use Rattle.gp_txn.specs.Ascending.{IsAscending, place_of}
-use Rattle.gp_txn.specs.Enough.{IsEnough}
+use Rattle.gp_txn.specs.Enough.{IsEnough, passes_in}
 use Rattle.gp_txn.specs.Passes.{of_entry, made_of_place, row_dropped, row_wanted}
 use Rattle.gp_txn.specs.Wanted.{wanted, wanted_own}
 use Rattle.gp_txn.proofs.PlacedLemmas.{anywhere, entries-made, made_of, places-made}
@@ -82,9 +82,14 @@ dropped-entries carried v spans placed ascend =
     (λ i. length (entries-made row_dropped carried v spans placed (λ span. refl) ascend i) + length (overlaid (slots_from carried v placed 0 spans) (rows-spans carried v spans i)))
     ∙ dropped-made (slots_from carried v placed 0 spans) (slotted_spans carried v spans)
 
+wanted-none : (c : Option Cond) (slot : Slot) (span : Span) → passes_in (passes_where c) slot span.row ≡ false → row_wanted c slot span ≡ []
+wanted-none c Same span none = ap (λ b. map stored_of (cond b (row_of unannotated span ∷ []) [])) none
+wanted-none c (Put cells) span none = ap (λ b. map stored_of (cond b (record { identity = span.id; cells = cells; mark = true; annotation = tt } ∷ []) [])) none
+wanted-none c Dropped span none = refl
+
 pub wanted-places : (c : Option Cond) (carried : List Carried) (v : ℕ) (spans : List Span) (placed : List Placed) (places : List ℕ) → IsEnough (passes_where c) placed v spans places
     → flat_map (made_of_place (anywhere (row_wanted c)) carried v placed spans) places ≡ map stored_of (wanted c (overlaid (slots_from carried v placed 0 spans) (slotted carried (rows_at unannotated v spans))))
 wanted-places c carried v spans placed places enough =
-    places-made (row_wanted c) carried v spans placed (passes_where c) places (λ span none. ap (λ b. map stored_of (cond b (row_of unannotated span ∷ []) [])) none) enough
+    places-made (row_wanted c) carried v spans placed (passes_where c) places (wanted-none c) enough
     ∙ wanted-made c (slots_from carried v placed 0 spans) (slotted_spans carried v spans)
     ∙ ap (λ (rows : List PlainRow). map stored_of (wanted c (overlaid (slots_from carried v placed 0 spans) rows))) (sym (rows-spans carried v spans))

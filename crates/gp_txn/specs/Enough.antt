@@ -8,7 +8,7 @@ use Rattle.gp_versions.specs.Spans.{holds_at}
 use Rattle.gp_txn.specs.declared.carried.Carried.{Carried}
 use Rattle.gp_txn.specs.declared.overlay.Placed.{Placed}
 use Rattle.gp_txn.specs.declared.overlay.Slot.{Slot}
-use Rattle.gp_txn.specs.declared.overlay.Slot.TheVariants.{Same}
+use Rattle.gp_txn.specs.declared.overlay.Slot.TheVariants.{Same, Put, Dropped}
 use Rattle.gp_txn.specs.Ascending.{IsAscending}
 use Rattle.gp_txn.specs.Overlay.{has_slot, slot_at}
 
@@ -16,12 +16,18 @@ use Rattle.gp_txn.specs.Overlay.{has_slot, slot_at}
 abbrev pub is_among : List ℕ → ℕ → Bool
 is_among places place = list_any (λ other. other == place) places
 
--- These places are enough for a statement that changes, or a query that wants, only rows that pass a test: a row of the version at another place is
--- unwritten, and does not pass.
+-- whether what is seen of a row with this slot passes a test
+abbrev pub passes_in : (List Cell → Bool) → Slot → List Cell → Bool
+passes_in test Same cells = test cells
+passes_in test (Put now) cells = test now
+passes_in test Dropped cells = false
+
+-- These places are enough for a statement that changes, or a query that wants, only rows that pass a test: what is seen of a row of the version at
+-- another place does not pass.
 pub record IsEnough (test : List Cell → Bool) (placed : List Placed) (version : ℕ) (spans : List Span) (places : List ℕ) : Type 0 where
   pub ascending : IsAscending places
   pub others : (place : ℕ) (span : Span) → slice_get spans place ≡ Some span → holds_at version span ≡ true → is_among places place ≡ false
-      → (slot_at place placed ≡ Same) × (test span.row ≡ false)
+      → passes_in test (slot_at place placed) span.row ≡ false
 
 -- ---- the row at a place
 

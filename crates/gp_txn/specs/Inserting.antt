@@ -1,5 +1,5 @@
 -- Machinery: the rows that an INSERT makes, and which tables a query reads.
-use Rattle.std.specs.Prelude.{◌≡◌, ℕ, ◌+◌, ◌==◌, Bool, true, false, nat_lt, List, length, map, Result, Ok, Err}
+use Rattle.std.specs.Prelude.{◌≡◌, ℕ, ◌+◌, ◌<◌, ◌≤◌, ◌==◌, Bool, true, false, nat_lt, List, length, map, Result, Ok, Err}
 use Rattle.std.specs.List.{AllByRecursion, list_any}
 use Rattle.gp_base.specs.declared.row_id.TheConstants.{MAX_NODES}
 use Rattle.gp_base.specs.declared.stored.Stored.{Stored}
@@ -35,6 +35,13 @@ Prepares (Ok new) count rows = (are_many count (length rows) ≡ false) × (map 
 Prepares (Err Rows) count rows = are_many count (length rows) ≡ true
 Prepares (Err Ancestry) count rows = (are_many count (length rows) ≡ false) × (are_large rows ≡ true)
 Prepares (Err NoMemory) count rows = Unit {0}
+
+-- the rows to insert into a table that may have so many more
+abbrev pub Fills : Result (List Stored) StmtStop → ℕ → List PlainRow → Type 0
+Fills (Ok new) room rows = (length rows ≤ room) × (map own_row new ≡ rows) × (are_large rows ≡ false)
+Fills (Err Rows) room rows = room < length rows
+Fills (Err Ancestry) room rows = (length rows ≤ room) × (are_large rows ≡ true)
+Fills (Err NoMemory) room rows = Unit {0}
 
 abbrev pub names_table : ℕ → List ℕ → Bool
 names_table table from = list_any (λ place. place == table) from

@@ -16,7 +16,7 @@ use Rattle.gp_txn.specs.Changes.{Change, touched}
 use Rattle.gp_txn.specs.Conflicts.{late_of}
 use Rattle.gp_txn.specs.Enough.{slotted_at}
 use Rattle.gp_txn.specs.Overlay.{PlainRow, shown, slot_at, slot_write, stored_of}
-use Rattle.gp_txn.specs.Slots.{changed_slot, entry}
+use Rattle.gp_txn.specs.Slots.{written_entry}
 use Rattle.gp_txn.specs.Wanted.{wanted}
 
 -- what is made of a row with this slot, if the row has a slot
@@ -56,6 +56,6 @@ row_wanted cond slot span = map stored_of (wanted cond (shown slot (row_of unann
 abbrev pub row_touched : Change → Slot → Span → List PlainRow
 row_touched change slot span = touched change (shown slot (row_of unannotated span))
 
--- what is kept of it after the statement
+-- its slot after the statement, if that writes it
 abbrev pub row_entry : Change → ℕ → Slot → Span → List Placed
-row_entry change place slot span = entry place (changed_slot change slot span.row)
+row_entry change place slot span = written_entry change place slot span.row

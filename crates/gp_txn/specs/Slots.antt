@@ -1,5 +1,5 @@
 -- Machinery: the writes of a table after an UPDATE or a DELETE.
-use Rattle.std.specs.Prelude.{ℕ, suc, Bool, false, List, [], ◌∷◌, ◌++◌, drop, map, slice_set, length, Option, Some, None, if◌then◌else◌}
+use Rattle.std.specs.Prelude.{ℕ, suc, ◌==◌, nat_lt, Bool, false, List, [], ◌∷◌, ◌++◌, drop, map, slice_set, length, Option, Some, None, if◌then◌else◌}
 use Rattle.std.specs.List.{filter_map}
 use Rattle.gp_base.specs.declared.cell.Cell.{Cell}
 use Rattle.gp_base.specs.declared.stored.Stored.{Stored}
@@ -97,27 +97,43 @@ changed_overlay change writes base = record {
   own = changed_own change writes.own;
 }
 
--- the slot of the row at a place, unless the row is as it was
-abbrev pub entry : ℕ → Slot → List Placed
-entry place Same = []
-entry place (Put cells) = record { place = place; slot = Put cells } ∷ []
-entry place Dropped = record { place = place; slot = Dropped } ∷ []
+-- the slot of the row at a place after the statement, if it writes the row
+abbrev pub written_entry : Change → ℕ → Slot → List Cell → List Placed
+written_entry change place slot cells =
+    if is_touched change slot cells then record { place = place; slot = slot_of (cells_seen change (seen slot cells)) } ∷ [] else []
 
--- the slots that are kept after the statement, given the place of the first span
-abbrev pub changed_from : Change → List Carried → ℕ → List Placed → ℕ → List Span → List Placed
-changed_from change carried version placed place [] = []
-changed_from change carried version placed place (span ∷ spans) =
-    (if has_slot carried version span then entry place (changed_slot change (slot_at place placed) span.row) else [])
-    ++ changed_from change carried version placed (suc place) spans
+-- the slots of the rows that the statement writes, given the place of the first span
+abbrev pub written_from : Change → List Carried → ℕ → List Placed → ℕ → List Span → List Placed
+written_from change carried version placed place [] = []
+written_from change carried version placed place (span ∷ spans) =
+    (if has_slot carried version span then written_entry change place (slot_at place placed) span.row else [])
+    ++ written_from change carried version placed (suc place) spans
+
+-- one slot and others: those at places below come first, and behind it is what is made of those above
+abbrev pub put_at : Placed → (List Placed → List Placed) → List Placed → List Placed
+put_at new more [] = new ∷ more []
+put_at new more (old ∷ others) =
+    if nat_lt old.place new.place then old ∷ put_at new more others
+    else new ∷ more (if old.place == new.place then others else old ∷ others)
+
+-- slots, and new ones, which are in place of those that were there
+abbrev pub put_all : List Placed → List Placed → List Placed
+put_all [] old = old
+put_all (new ∷ others) old = put_at new (put_all others) old
 
 -- what is kept of a table with these spans after the statement
 abbrev pub changed_table : Change → List Span → TableWrites → TableWrites
 changed_table change spans writes = record {
   version = writes.version;
-  slots = changed_from change writes.carried writes.version writes.slots 0 spans;
+  slots = put_all (written_from change writes.carried writes.version writes.slots 0 spans) writes.slots;
   carried = changed_carried change writes.carried;
   own = changed_own change writes.own;
 }
+
+-- what was made, or else what was there
+abbrev pub made_or : {X : Type 0} → X → Option X → X
+made_or old None = old
+made_or old (Some made) = made
 
 -- what a transaction keeps after statement k, which left these writes of a table
 abbrev pub put_table : ℕ → ℕ → TableWrites → Writes → Writes
@@ -136,6 +152,3 @@ with_own new table = record { version = table.version; slots = table.slots; carr
 -- how many rows it writes
 abbrev pub count_touched : Change → List PlainRow → ℕ
 count_touched change rows = length (touched change rows)
-
-abbrev pub one_if : Bool → ℕ
-one_if b = if b then 1 else 0

@@ -4,17 +4,19 @@ ghost use Rattle.std.specs.Prelude.{◌≡◌, ◌<◌, ◌≤◌, ◌++◌, ℕ
 ghost use Rattle.std.specs.Option.{option_map};
 ghost use Rattle.gp_base.specs.declared.catalog.TheConstants.{MAX_TABLES};
 ghost use Rattle.gp_txn.specs.Bases.{table_view};
+ghost use Rattle.gp_txn.specs.Changes.{change_is_simple, change_view};
 ghost use Rattle.gp_txn.specs.Overlay.{no_writes, overlay_of, stored_of};
 ghost use Rattle.gp_txn.specs.Rebasing.{writes_over};
-ghost use Rattle.gp_txn.specs.Slots.{put_table, with_own};
+ghost use Rattle.gp_txn.specs.Slots.{changed_table, count_touched, put_table, with_own};
 ghost use Rattle.gp_txn.specs.Transactions.{AreOthers, AreOwn, HoldsOwn, IsUnwritten, KeepsOwn, snapshot_of, table_at, view_at, writes_at};
 ghost use Rattle.gp_txn.specs.Wanted.{wanted};
 ghost use Rattle.gp_expr.specs.Views.{cond_view};
 ghost use Rattle.gp_algebra.specs.Simple.{where_is_simple};
 ghost use Rattle.gp_versions.specs.TableSpans.{NoOverlap};
 
+use crate::change::Change;
 use crate::overlay::TableWrites;
-use crate::rebase::{append_own, count_at, view_at, writes_for};
+use crate::rebase::{append_own, change_over, count_at, view_at, writes_for};
 use gp_base::{MAX_TABLES, NoMemory, Sequence, Stored};
 use gp_expr::Cond;
 use gp_versions::{SpanList, VersionTable};
@@ -208,16 +210,40 @@ impl Active {
         count_at(self.alloc, self.writes(table), &spans, version)
     }
 
-    /// Keeps these writes of a table, which statement k left.
-    pub(crate) fn put(&mut self, k: u32, table: u32, writes: TableWrites)
+    /// Keeps what statement k, an UPDATE or a DELETE that read this version, left of a table. Gives the number of rows that it
+    /// wrote.
+    pub(crate) fn change_rows(
+        &mut self,
+        k: u32,
+        table: u32,
+        version: u32,
+        spans: &SpanList<'_>,
+        change: &Change<'_>,
+    ) -> Result<u32, NoMemory>
         requires table { table < MAX_TABLES }
+        requires simple { change_is_simple (change_view change.now) ≡ true }
         requires later { self.old.last ≤ k }
-        requires own { KeepsOwn self.old.t k writes }
-        ensures new { self.new ≡ put_table k table writes self.old }
-        ensures tables { length self.old.tables ≡ MAX_TABLES }
+        requires others { AreOthers self.old.t spans.now }
+        requires apart { NoOverlap spans.now }
+        ensures count { IfOk result (λ count. count ≡ count_touched (change_view change.now)
+            (table_view (overlay_of spans.now (writes_at table self.old.tables)) spans.now version)) }
+        ensures ok { OnOk result (self.new ≡ put_table k table
+            (changed_table (change_view change.now) spans.now
+            (writes_over version spans.now (writes_at table self.old.tables))) self.old) }
+        ensures tables { OnOk result (length self.old.tables ≡ MAX_TABLES) }
+        ensures own { OnOk result (KeepsOwn self.old.t self.old.last (writes_at table self.old.tables)) }
+        ensures err { OnErr result (self.new ≡ self.old) }
     {
-        self.tables[table as usize] = writes;
+        let moved = writes_for(self.alloc, self.writes(table), spans, version)?;
+        let count = change_over(
+            self.alloc,
+            &mut self.tables[table as usize],
+            moved,
+            spans,
+            change,
+        )?;
         self.last = k;
+        Ok(count)
     }
 
     /// Keeps the rows that statement k, which read this version, inserted into a table. Gives their number.

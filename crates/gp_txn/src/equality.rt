@@ -4,9 +4,12 @@ ghost use Rattle.std.specs.Prelude.{◌≡◌, IfSome};
 ghost use Rattle.gp_expr.specs.Expressions as e;
 ghost use Rattle.gp_expr.specs.declared.expr.Cmp.TheVariants.{Eq};
 ghost use Rattle.gp_expr.specs.Views.{cond_view, expr_view};
-ghost use Rattle.gp_txn.specs.Equating.{Compares, Equates};
+ghost use Rattle.gp_base.specs.CellForms.{cell_view};
+ghost use Rattle.gp_txn.specs.Equating.{Compares, Equates, puts_cell};
+ghost use Rattle.gp_versions.specs.Places as p;
 
-use gp_base::Cell;
+use crate::overlay::Slot;
+use gp_base::{Cell, CellRef, Row};
 use gp_expr::{Cmp, Cond, Expr};
 
 /// A column that a condition compares with a constant, for equality.
@@ -16,6 +19,42 @@ pub struct Equality<'a> {
     pub column: u32,
     /// The constant.
     pub cell: &'a Cell,
+}
+
+/// The cell of a row in a column; NULL if it does not have the column.
+fn cell_at(row: &Row, column: u32) -> CellRef<'_>
+    ensures { cell_view result ≡ p.cell_at column row.now }
+{
+    if column == 0 {
+        return CellRef::Null;
+    }
+    match row.cells().get(column as usize - 1) {
+        Some(cell) => cell.as_ref(),
+        None => CellRef::Null,
+    }
+}
+
+/// Whether `=` of SQL is true of the cells.
+fn are_equal(cell: CellRef<'_>, other: CellRef<'_>) -> bool
+    ensures { result ≡ p.are_equal (cell_view cell.entry) (cell_view other.entry) }
+{
+    match (cell, other) {
+        (CellRef::Int(cell), CellRef::Int(other)) => cell.cmp(&other).is_eq(),
+        (CellRef::Text(cell), CellRef::Text(other)) => cell.cmp(other).is_eq(),
+        _ => false,
+    }
+}
+
+impl Equality<'_> {
+    /// Whether the transaction put an equal cell into the column of a row.
+    pub(crate) fn is_put(&self, slot: &Slot) -> bool
+        ensures { result ≡ puts_cell self.now.column self.now.cell.now slot.now }
+    {
+        match slot {
+            Slot::Put(row) => are_equal(cell_at(row, self.column), self.cell.as_ref()),
+            Slot::Same | Slot::Dropped => false,
+        }
+    }
 }
 
 /// The number of a column, if the expression is one.

@@ -16,8 +16,8 @@
 //! Inside, `update` is UPDATE and DELETE, and `assignment` the rows that an UPDATE makes; `insert` makes the rows of an
 //! INSERT, and `statement` puts both behind one call. `snapshot` makes the rows that a transaction sees over the version that
 //! its writes lie over, and `rebase` moves the writes of a table to another version. `query` answers queries, and
-//! `reads` tells which tables and rows they want. `equality` and `lookup` find the rows that a condition may be true of by an
-//! index of a column. Of a commit, `conflict` finds the row that it is lost by, `writes` copies the writes of a table,
+//! `reads` tells which tables and rows they want. [`equated`] tells which cell a condition asks for, and `lookup` finds the rows
+//! that it may be true of by an index of a column. Of a commit, `conflict` finds the row that it is lost by, `writes` copies the writes of a table,
 //! `span_count` counts the spans that they leave, and `publication` makes room for them and then the version.
 //!
 //! ```text
@@ -55,6 +55,7 @@ mod writes;
 pub use active::Active;
 pub use assignment::assigned;
 pub use carried::{Carried, CarriedRows};
+pub use equality::{Equality, equated};
 pub use error::{CommitStop, StmtStop};
 pub use laws::the_first_committer_wins;
 pub use lookup::index_for;

@@ -1,7 +1,7 @@
 //! The rows that a statement has to look at.
 //!
 //! A condition such as `id = 7 AND ..` is true of few rows of a table. Where the table has an index of the column, only the
-//! rows that it finds are looked at, and those that the transaction wrote, whose cells differ from those in the index. What
+//! rows that it finds are looked at, and those into which the transaction put the cell, which the index does not have. What
 //! is found is tested with the whole condition, so that an index decides the cost of a statement and not its answer.
 
 ghost use Rattle.std.specs.Prelude.{◌≡◌, ◌≤◌, ◌++◌, IfOk, IfSome, List, ℕ, drop, length, map};
@@ -11,9 +11,10 @@ ghost use Rattle.gp_expr.specs.Views.{cond_view};
 ghost use Rattle.gp_algebra.specs.Answers.{passes_where};
 ghost use Rattle.gp_txn.specs.Ascending.{place_of};
 ghost use Rattle.gp_txn.specs.Enough.{IsEnough};
+ghost use Rattle.gp_txn.specs.Equating.{found_slots};
 ghost use Rattle.gp_txn.specs.Merging.{merged, merged_at};
 
-use crate::equality::equated;
+use crate::equality::{Equality, equated};
 use crate::overlay::Placed;
 use crate::slots::Slots;
 use gp_algebra::{Select, Stmt};
@@ -47,9 +48,15 @@ fn push_merged(
     Ok(n)
 }
 
-/// The places that were found, and those of the slots.
-fn with_written(alloc: Global, found: Vec<u32>, slots: &[Placed]) -> Result<Vec<u32>, NoMemory>
-    ensures { IfOk result (λ all. all.items ≡ merged (map place_of slots.now) found.items) }
+/// The places that were found, and those of the rows into which the transaction put the cell.
+fn with_written(
+    alloc: Global,
+    found: Vec<u32>,
+    slots: &[Placed],
+    equality: &Equality<'_>,
+) -> Result<Vec<u32>, NoMemory>
+    ensures { IfOk result (λ all. all.items ≡ merged (map place_of
+        (found_slots equality.now.column equality.now.cell.now slots.now)) found.items) }
 {
     if slots.is_empty() {
         return Ok(found);
@@ -57,13 +64,15 @@ fn with_written(alloc: Global, found: Vec<u32>, slots: &[Placed]) -> Result<Vec<
     let mut all = Vec::with_capacity(alloc, found.len())?;
     let mut next = 0usize;
     for placed in slots {
-        next = push_merged(&mut all, &found, next, placed.place)?;
+        if equality.is_put(&placed.slot) {
+            next = push_merged(&mut all, &found, next, placed.place)?;
+        }
     }
     all.extend_from_slice(&found[next..])?;
     Ok(all)
 }
 
-/// Places at which all rows of version v are that the transaction wrote, or that pass the condition, if an index finds them.
+/// Places at which all rows of version v are that the transaction sees to pass the condition, if an index finds them.
 fn indexed_places(
     alloc: Global,
     spans: &SpanList<'_>,
@@ -78,12 +87,12 @@ fn indexed_places(
         return Ok(None);
     };
     match spans.places_with(alloc, equality.column, equality.cell, v)? {
-        Some(found) => Ok(Some(with_written(alloc, found, slots.as_slice())?)),
+        Some(found) => Ok(Some(with_written(alloc, found, slots.as_slice(), &equality)?)),
         None => Ok(None),
     }
 }
 
-/// Places at which all rows of version v are that the transaction wrote, or that pass the condition, if there is one.
+/// Places at which all rows of version v are that the transaction sees to pass the condition, if there is one.
 pub fn places_for(
     alloc: Global,
     spans: &SpanList<'_>,

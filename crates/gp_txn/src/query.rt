@@ -7,7 +7,7 @@ ghost use Rattle.gp_algebra.specs.Answers.{answer};
 ghost use Rattle.gp_algebra.specs.Simple.{select_is_simple};
 ghost use Rattle.gp_algebra.specs.Views.{select_view};
 ghost use Rattle.gp_base.specs.declared.limit.TheConstants.{MAX_ANSWER_ROWS};
-ghost use Rattle.gp_exec.specs.Choosing.{Chooses, chosen_view};
+ghost use Rattle.gp_exec.specs.Choosing.{Chooses, ChoosesRows, chosen_view};
 ghost use Rattle.gp_txn.specs.Applying.{Selects, is_readable};
 ghost use Rattle.gp_txn.specs.Inserting.{AreApart, reads_table};
 ghost use Rattle.gp_txn.specs.Overlay.{stored_of};
@@ -16,10 +16,10 @@ ghost use Rattle.gp_txn.specs.Wanted.{row_where, wanted};
 ghost use Rattle.gp_versions.specs.TableSpans.{NoOverlap};
 
 use crate::active::{Active, spans_of};
-use crate::reads::{reads_table, row_where, rows_of};
+use crate::reads::{reads_table, row_where};
 use gp_algebra::Select;
 use gp_base::{MAX_ANSWER_ROWS, NoMemory, Row, Sequence, Stored};
-use gp_exec::{ChooseStop, Chosen, Views, choose};
+use gp_exec::{ChooseStop, Chosen, Views, choose, select_rows};
 use gp_versions::VersionTable;
 
 impl Active {
@@ -84,6 +84,23 @@ impl Active {
         choose(self.alloc(), select, &views, most)
     }
 
+    /// The rows of this answer. What they come from is not copied.
+    fn rows(
+        &self,
+        select: &Select,
+        version: u32,
+        versions: &[VersionTable],
+        most: usize,
+    ) -> Result<Vec<Row>, ChooseStop>
+        requires few { length versions.now ≤ MAX_TABLES }
+        requires readable { is_readable (length versions.now) (select_view select.now) ≡ true }
+        ensures { ChoosesRows (λ found. found.items) result most
+            (answer unannotated (select_view select.now) (view_at self.now.tables versions.now version)) }
+    {
+        let views = self.views(select, version, versions)?;
+        select_rows(self.alloc(), select, &views, most)
+    }
+
     /// The rows of a query over what the transaction sees at a version, in the order of nested loops. TooMany exactly if there
     /// are more than [`MAX_ANSWER_ROWS`]. For a statement, `version` is what [`Active::snapshot`] gives.
     pub fn select(
@@ -97,7 +114,7 @@ impl Active {
         ensures { Selects result MAX_ANSWER_ROWS
             (answer unannotated (select_view select.now) (view_at self.now.tables versions.now version)) }
     {
-        let chosen = self.chosen(select, version, versions, MAX_ANSWER_ROWS)?;
-        Ok(rows_of(self.alloc(), chosen)?)
+        let rows = self.rows(select, version, versions, MAX_ANSWER_ROWS)?;
+        Ok(Sequence::from_vec(rows))
     }
 }

@@ -1,19 +1,14 @@
-//! The tables and rows that a query reads, and the rows that it gives.
+//! The tables and rows that a query reads.
 
-ghost use Rattle.std.specs.Prelude.{◌≡◌, map, IfOk};
+ghost use Rattle.std.specs.Prelude.{◌≡◌};
 ghost use Rattle.std.specs.Option.{option_map};
 ghost use Rattle.gp_expr.specs.Views.{cond_view};
-ghost use Rattle.gp_algebra.specs.Answers.{cells_of};
 ghost use Rattle.gp_algebra.specs.Views.{select_view};
-ghost use Rattle.gp_exec.specs.Choosing.{chosen_view};
 ghost use Rattle.gp_txn.specs.Inserting.{names_table, reads_table};
 ghost use Rattle.gp_txn.specs.Wanted.{row_where};
 
 use gp_algebra::Select;
-use gp_base::{NoMemory, Row, Sequence};
-use gp_exec::Chosen;
 use gp_expr::Cond;
-use std::alloc::Global;
 
 /// Whether the table is among those of a FROM.
 fn names_table(from: &[u32], table: u32) -> bool
@@ -48,15 +43,4 @@ pub fn row_where(select: &Select) -> Option<&Cond>
         [branch] if branch.from.as_slice().len() == 1 => branch.cond.as_ref(),
         _ => None,
     }
-}
-
-/// The rows of an answer.
-pub fn rows_of(alloc: Global, chosen: Vec<Chosen>) -> Result<Sequence<Row>, NoMemory>
-    ensures { IfOk result (λ rows. rows ≡ cells_of (map chosen_view chosen.items)) }
-{
-    let mut rows = Sequence::new(alloc);
-    for one in chosen {
-        rows.push(one.row)?;
-    }
-    Ok(rows)
 }

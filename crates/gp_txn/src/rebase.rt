@@ -7,7 +7,7 @@ ghost use Rattle.gp_algebra.specs.Simple.{where_is_simple};
 ghost use Rattle.gp_txn.specs.Bases.{table_view};
 ghost use Rattle.gp_txn.specs.Changes.{change_is_simple, change_view};
 ghost use Rattle.gp_txn.specs.Overlay.{overlay_of, rows_below, stored_of, view_rows};
-ghost use Rattle.gp_txn.specs.Rebasing.{IsMoved, carried_of, carried_over, or_writes, writes_over};
+ghost use Rattle.gp_txn.specs.Rebasing.{IsMoved, carried_of, carried_over, or_writes};
 ghost use Rattle.gp_txn.specs.Slots.{changed_table, count_touched, with_own};
 ghost use Rattle.gp_txn.specs.Wanted.{wanted};
 
@@ -16,7 +16,7 @@ use crate::change::Change;
 use crate::overlay::TableWrites;
 use crate::slots::Slots;
 use crate::snapshot::{copied_row, count_rows, view_rows};
-use crate::update::{Counted, changed};
+use crate::update::change_writes;
 use crate::writes::slot_writes;
 use gp_base::{NoMemory, Row, Sequence, Stored};
 use gp_expr::Cond;
@@ -174,23 +174,30 @@ pub fn count_at(
     }
 }
 
-/// The writes of a table after an UPDATE or a DELETE that reads a version.
-pub fn changed_at(
+/// Puts in the writes that were made for a version, if there are any, and what an UPDATE or a DELETE makes of them. Gives the
+/// number of rows that it writes.
+pub fn change_over(
     alloc: Global,
-    writes: &TableWrites,
+    writes: &mut TableWrites,
+    moved: Option<TableWrites>,
     spans: &SpanList<'_>,
-    version: u32,
     change: &Change<'_>,
-) -> Result<Counted<TableWrites>, NoMemory>
+) -> Result<u32, NoMemory>
     requires { change_is_simple (change_view change.now) ≡ true }
-    ensures exact { IfOk result (λ new. new.made ≡ changed_table (change_view change.now)
-        spans.now (writes_over version spans.now writes.now)) }
-    ensures count { IfOk result (λ new. new.count ≡ count_touched (change_view change.now)
-        (table_view (overlay_of spans.now writes.now) spans.now version)) }
+    ensures exact { OnOk result (writes.new ≡ changed_table (change_view change.now)
+        spans.now (or_writes moved writes.old)) }
+    ensures count { IfOk result (λ count. count ≡ count_touched (change_view change.now)
+        (view_rows (overlay_of spans.now (or_writes moved writes.old))
+        (rows_below (overlay_of spans.now (or_writes moved writes.old)) spans.now))) }
+    ensures err { OnErr result (writes.new ≡ writes.old) }
 {
-    match writes_for(alloc, writes, spans, version)? {
-        None => changed(alloc, writes, spans, change),
-        Some(writes) => changed(alloc, &writes, spans, change),
+    match moved {
+        None => change_writes(alloc, writes, spans, change),
+        Some(mut moved) => {
+            let count = change_writes(alloc, &mut moved, spans, change)?;
+            *writes = moved;
+            Ok(count)
+        }
     }
 }
 

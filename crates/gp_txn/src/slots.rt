@@ -1,12 +1,14 @@
 //! What a transaction did to the rows of a version, by the places of their spans.
 
-ghost use Rattle.std.specs.Prelude.{◌≡◌, [], map, slice_get};
+ghost use Rattle.std.specs.Prelude.{◌≡◌, ◌<◌, ◌≤◌, ◌+◌, ◌++◌, [], List, length, map, reverse, vec_capacity, vec_len, OnErr, OnOk};
 ghost use Rattle.std.specs.Option.{option_map};
 ghost use Rattle.gp_txn.specs.Ascending.{IsAscending, place_of};
 ghost use Rattle.gp_txn.specs.Enough.{first_at, seek, slot_or, slotted_at};
+ghost use Rattle.gp_txn.specs.Slots.{put_all, put_at};
 
 use crate::carried::CarriedRows;
 use crate::overlay::{Placed, Slot};
+use gp_base::NoMemory;
 use gp_versions::{Span, SpanList};
 use std::alloc::Global;
 use std::marker::Model;
@@ -34,6 +36,67 @@ impl Model for Slots {
     ghost invariant = { λ a. IsAscending (map place_of a.list.items) };
 }
 
+/// Moves the last slots, this many, to a list that has the last one first.
+fn lift(list: &mut Vec<Placed>, behind: &mut Vec<Placed>, count: usize)
+    requires within { count ≤ vec_len list.old }
+    requires none { vec_len behind.old ≡ 0 }
+    requires room { count ≤ vec_capacity behind.old }
+    ensures items { list.new.items ++ reverse behind.new.items
+        ≡ list.old.items ++ reverse behind.old.items }
+    ensures len { vec_len list.new + count ≡ vec_len list.old }
+    ensures front { length list.new.items + count ≡ length list.old.items }
+    ensures behind { vec_len behind.new ≡ count }
+    ensures room { vec_len behind.new ≤ vec_capacity behind.new }
+    ensures capacity { vec_capacity list.new ≡ vec_capacity list.old }
+{
+    'lift: while behind.len() < count {
+        match list.pop() {
+            Some(placed) => behind.push_reserved(placed),
+            None => unreachable!(),
+        }
+    }
+}
+
+/// Moves slots back that were lifted and are at places below the one of a new slot, and puts in that one.
+fn put(list: &mut Vec<Placed>, behind: &mut Vec<Placed>, new: Placed)
+    requires room { vec_len list.old + vec_len behind.old < vec_capacity list.old }
+    requires behind { vec_len behind.old ≤ vec_capacity behind.old }
+    ensures items { (more : List Placed → List Placed)
+        → list.new.items ++ more (reverse behind.new.items)
+        ≡ list.old.items ++ put_at new more (reverse behind.old.items) }
+    ensures len { vec_len list.new + vec_len behind.new
+        ≤ vec_len list.old + vec_len behind.old + 1 }
+    ensures capacity { vec_capacity list.new ≡ vec_capacity list.old }
+    ensures behind { vec_len behind.new ≤ vec_capacity behind.new }
+{
+    'below: while let Some(placed) = behind.pop() {
+        if placed.place >= new.place {
+            if placed.place != new.place {
+                behind.push_reserved(placed);
+            }
+            list.push_reserved(new);
+            return;
+        }
+        list.push_reserved(placed);
+    }
+    list.push_reserved(new);
+}
+
+/// Puts in new slots, and moves back those that were lifted.
+fn put_lifted(list: &mut Vec<Placed>, behind: Vec<Placed>, new: Vec<Placed>)
+    requires room { vec_len list.old + vec_len behind + length new.items ≤ vec_capacity list.old }
+    requires behind { vec_len behind ≤ vec_capacity behind }
+    ensures { list.new.items ≡ list.old.items ++ put_all new.items (reverse behind.items) }
+{
+    let mut behind = behind;
+    for placed in new {
+        put(list, &mut behind, placed);
+    }
+    'lower: while let Some(placed) = behind.pop() {
+        list.push_reserved(placed);
+    }
+}
+
 impl Slots {
     /// No slots.
     pub fn new(alloc: Global) -> Slots
@@ -44,12 +107,22 @@ impl Slots {
         }
     }
 
-    /// These slots.
-    pub fn from_vec(list: Vec<Placed>) -> Slots
-        requires { IsAscending (map place_of list.items) }
-        ensures { result ≡ list.items }
+    /// Puts in new slots, in place of those that are at their places. If memory runs out, nothing changes. It costs what the new
+    /// slots and those behind the first of them cost, and copies no rows.
+    pub fn put_all(&mut self, alloc: Global, new: Vec<Placed>) -> Result<(), NoMemory>
+        requires { IsAscending (map place_of new.items) }
+        ensures ok { OnOk result (self.new ≡ put_all new.items self.old) }
+        ensures err { OnErr result (self.new ≡ self.old) }
     {
-        Slots { list }
+        let Some(first) = new.first() else {
+            return Ok(());
+        };
+        let count = seek(&self.list, first.place).len();
+        let mut behind = Vec::with_capacity(alloc, count)?;
+        self.list.reserve(new.len())?;
+        lift(&mut self.list, &mut behind, count);
+        put_lifted(&mut self.list, behind, new);
+        Ok(())
     }
 
     /// The slots.

@@ -1,6 +1,6 @@
 //! Statements of a running transaction. What can fail comes first, so that a statement that is refused changes nothing.
 
-ghost use Rattle.std.specs.Prelude.{◌≡◌, ◌<◌, ◌≤◌, ◌+◌, ◌++◌, ◌^◌, not, true, IfOk, MatchOption, length, map};
+ghost use Rattle.std.specs.Prelude.{◌≡◌, ◌<◌, ◌≤◌, ◌+◌, ◌++◌, ◌^◌, not, true, IfOk, IfSome, MatchOption, length, map};
 ghost use Rattle.gp_base.specs.declared.catalog.TheConstants.{MAX_TABLES};
 ghost use Rattle.gp_base.specs.Annotated.{unannotated};
 ghost use Rattle.gp_algebra.specs.Answers.{answer};
@@ -10,14 +10,13 @@ ghost use Rattle.gp_algebra.specs.Views.{select_view, statement_view};
 ghost use Rattle.gp_base.specs.declared.limit.TheConstants.{MAX_TABLE_ROWS};
 ghost use Rattle.gp_txn.specs.Applying.{Applies, is_applicable, is_readable};
 ghost use Rattle.gp_txn.specs.Changes.{change_is_simple, change_view, statement_at};
-ghost use Rattle.gp_txn.specs.Inserting.{Prepares, are_many};
+ghost use Rattle.gp_txn.specs.Inserting.{Fills, Prepares, are_many};
 ghost use Rattle.gp_txn.specs.Transactions.{AreOwn, HoldsOthers, view_at, writes_at};
 
-use crate::active::{Active, number, span_count, spans_of};
+use crate::active::{Active, span_count, spans_of};
 use crate::change::Change;
 use crate::error::StmtStop;
 use crate::insert::{given_rows, made_rows};
-use crate::rebase::changed_at;
 use gp_algebra::{Select, Stmt};
 use gp_base::{MAX_TABLE_ROWS, NoMemory, Row, Sequence, Stored};
 use gp_versions::VersionTable;
@@ -39,12 +38,8 @@ impl Active {
         ensures { Applies result k version (statement_at table (change_view change.now))
             versions.now self.old self.new }
     {
-        let writes = self.writes(table);
         let spans = spans_of(versions, table);
-        let new = changed_at(self.alloc(), writes, &spans, version, change)?;
-        let count = number(new.count)?;
-        self.put(k, table, new.made);
-        Ok(count)
+        Ok(self.change_rows(k, table, version, &spans, change)?)
     }
 
     /// How many more rows a table may have at a version, or None if it has too many.
@@ -64,24 +59,20 @@ impl Active {
         Ok(MAX_TABLE_ROWS.checked_sub(count))
     }
 
-    /// Whether a table surely has room for more rows at a version, this many: the transaction sees at most one row for each
-    /// row version, and the rows that it wrote. Most INSERTs count no rows then.
-    fn is_roomy(&self, table: u32, version: u32, versions: &[VersionTable], more: usize) -> bool
+    /// How many more rows a table surely may have at a version, where that is known without counting: the transaction sees at
+    /// most one row for each row version, and the rows that it wrote. Most INSERTs count no rows then.
+    fn sure_room(&self, table: u32, version: u32, versions: &[VersionTable]) -> Option<usize>
         requires { table < MAX_TABLES }
-        ensures { result ≡ true → not (are_many
-            (length (view_at self.now.tables versions.now version table)) more) ≡ true }
+        ensures { IfSome result (λ room.
+            room + length (view_at self.now.tables versions.now version table) ≤ MAX_TABLE_ROWS) }
     {
         let writes = self.writes(table);
-        if writes.version != version || more > MAX_TABLE_ROWS {
-            return false;
-        }
-        let room = MAX_TABLE_ROWS - more;
-        let old = span_count(versions, table);
-        if old > room {
-            return false;
+        if writes.version != version {
+            return None;
         }
         let written = writes.carried.as_slice().len() + writes.own.as_slice().len();
-        written <= room - old
+        let room = MAX_TABLE_ROWS.checked_sub(span_count(versions, table))?;
+        room.checked_sub(written)
     }
 
     /// Whether a table has room for more rows at a version, this many.
@@ -96,8 +87,10 @@ impl Active {
         ensures { IfOk result (λ room. room ≡ not (are_many
             (length (view_at self.now.tables versions.now version table)) more)) }
     {
-        if self.is_roomy(table, version, versions, more) {
-            return Ok(true);
+        if let Some(room) = self.sure_room(table, version, versions) {
+            if more <= room {
+                return Ok(true);
+            }
         }
         match self.room(table, version, versions)? {
             Some(room) => Ok(more <= room),
@@ -130,6 +123,31 @@ impl Active {
         Ok(given_rows(self.alloc(), self.t(), k, rows)?)
     }
 
+    /// The rows that an INSERT with a query inserts into a table that may have so many more.
+    fn made_within(
+        &self,
+        k: u32,
+        table: u32,
+        version: u32,
+        select: &Select,
+        versions: &[VersionTable],
+        room: usize,
+    ) -> Result<Sequence<Stored>, StmtStop>
+        requires table { table < MAX_TABLES }
+        requires few { length versions.now ≤ MAX_TABLES }
+        requires readable { is_readable (length versions.now) (select_view select.now) ≡ true }
+        requires later { self.now.last < k }
+        requires others { HoldsOthers self.now.t versions.now }
+        ensures own { IfOk result
+            (λ new. AreOwn self.now.t k ((writes_at table self.now.tables).own ++ new)) }
+        ensures rows { Fills result room (map (made unannotated self.now.t k)
+            (answer unannotated (select_view select.now)
+            (view_at self.now.tables versions.now version))) }
+    {
+        let chosen = self.chosen(select, version, versions, room)?;
+        made_rows(self.alloc(), self.t(), k, chosen)
+    }
+
     /// The rows that an INSERT with a query inserts.
     fn made(
         &self,
@@ -152,11 +170,19 @@ impl Active {
             (answer unannotated (select_view select.now)
             (view_at self.now.tables versions.now version))) }
     {
+        // The rows of a table are counted only where it may be full.
+        if let Some(room) = self.sure_room(table, version, versions) {
+            match self.made_within(k, table, version, select, versions, room) {
+                Err(StmtStop::Rows) => {}
+                Err(StmtStop::Ancestry) => return Err(StmtStop::Ancestry),
+                Err(StmtStop::NoMemory) => return Err(StmtStop::NoMemory),
+                Ok(new) => return Ok(new),
+            }
+        }
         let Some(room) = self.room(table, version, versions)? else {
             return Err(StmtStop::Rows);
         };
-        let chosen = self.chosen(select, version, versions, room)?;
-        made_rows(self.alloc(), self.t(), k, chosen)
+        self.made_within(k, table, version, select, versions, room)
     }
 
     /// Applies an INSERT with VALUES.

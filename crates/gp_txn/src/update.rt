@@ -1,37 +1,36 @@
 //! UPDATE and DELETE over the writes of a transaction. Both pass once over the rows of a table that may pass their condition.
 
-ghost use Rattle.std.specs.Prelude.{◌≡◌, ◌≤◌, ◌++◌, ◌∷◌, [], length, true, false, map, IfOk, OnOk, MatchOption, ◌<◌, ◌^◌};
+ghost use Rattle.std.specs.Prelude.{◌≡◌, ◌≤◌, ◌++◌, ◌∷◌, [], length, true, false, map, IfOk, OnErr, OnOk, MatchOption};
 ghost use Rattle.std.specs.Option.{option_map, option_to_list};
-ghost use Rattle.gp_base.specs.Annotated.{unannotated};
 ghost use Rattle.gp_expr.specs.Values as values;
-ghost use Rattle.gp_versions.specs.Spans.{rows_at};
 ghost use Rattle.gp_txn.specs.Changes.{change_is_simple, change_view, cond_of};
 ghost use Rattle.std.specs.List.{filter_map};
-ghost use Rattle.gp_txn.specs.Overlay.{carried_row, own_row, overlaid, overlay_of, rows_below, slots_from, slotted, view_rows};
+ghost use Rattle.gp_txn.specs.Overlay.{carried_row, own_row, overlay_of, rows_below, view_rows};
 ghost use Rattle.gp_txn.specs.Ascending.{IsAscending, place_of};
 ghost use Rattle.gp_txn.specs.Enough.{IsEnough, first_at, slot_or, slotted_at};
-ghost use Rattle.gp_txn.specs.Passes.{made_of_slot, row_entry, row_touched};
-ghost use Rattle.gp_txn.specs.Slots.{carried_after, cells_after, cells_seen, changed_carried, changed_from, changed_own, changed_slot, changed_table, count_touched, effect, entry, is_touched, one_if, passes_seen, seen, slot_of, stored_after};
+ghost use Rattle.gp_txn.specs.Passes.{made_of_slot, row_entry};
+ghost use Rattle.gp_txn.specs.Slots.{carried_after, cells_after, cells_seen, changed_carried, changed_own, changed_table, count_touched, effect, made_or, passes_seen, slot_of, stored_after, written_entry, written_from};
 
+use crate::active::number;
 use crate::assignment::assigned;
 use crate::carried::{Carried, CarriedRows};
 use crate::change::Change;
 use crate::lookup::places_for;
 use crate::overlay::{Placed, Slot, TableWrites};
-use crate::slots::{Slots, first_at, seek, slotted};
+use crate::slots::{first_at, seek, slotted};
 use crate::snapshot::{copied_row, seen};
 use gp_base::{NoMemory, Row, Sequence, Stored};
 use gp_expr::truth;
 use gp_versions::SpanList;
 use std::alloc::Global;
 
-/// What a statement makes, and how many rows it writes there.
+/// What a statement makes, if it makes something new, and how many rows it writes there.
 #[derive(Drop)]
-pub struct Counted<T> {
+struct Counted<T> {
     /// What it makes.
-    pub made: T,
+    made: Option<T>,
     /// The number of rows.
-    pub count: usize,
+    count: usize,
 }
 
 /// Whether the statement writes a row of these cells.
@@ -41,17 +40,6 @@ fn passes(change: &Change<'_>, row: &Row) -> bool
 {
     match change {
         Change::Update(_, cond) | Change::Delete(cond) => truth(cond, row).holds(),
-    }
-}
-
-/// A copy of a slot.
-fn copied(slot: Option<&Slot>) -> Result<Slot, NoMemory>
-    ensures { IfOk result (λ copy. copy ≡ slot_or (option_map (λ slot. slot.now) slot.entry)) }
-{
-    match slot {
-        None | Some(Slot::Same) => Ok(Slot::Same),
-        Some(Slot::Put(cells)) => Ok(Slot::Put(cells.clone()?)),
-        Some(Slot::Dropped) => Ok(Slot::Dropped),
     }
 }
 
@@ -88,51 +76,7 @@ fn slot_of(cells: Option<Row>) -> Slot
     }
 }
 
-/// The slot of a row with this slot after the statement.
-fn changed_slot(
-    alloc: Global,
-    change: &Change<'_>,
-    slot: Option<&Slot>,
-    row: &Row,
-) -> Result<Counted<Slot>, NoMemory>
-    requires { change_is_simple (change_view change.now) ≡ true }
-    ensures slot { IfOk result (λ new. new.made ≡ changed_slot
-        (change_view change.now) (slot_or (option_map (λ slot. slot.now) slot.entry)) row.now) }
-    ensures count { IfOk result (λ new. new.count ≡ one_if (is_touched
-        (change_view change.now) (slot_or (option_map (λ slot. slot.now) slot.entry)) row.now)) }
-{
-    match written(alloc, change, seen(slot, row))? {
-        Some(cells) => Ok(Counted {
-            made: slot_of(cells),
-            count: 1,
-        }),
-        None => Ok(Counted {
-            made: copied(slot)?,
-            count: 0,
-        }),
-    }
-}
-
-/// Adds a slot, unless the row is as it was.
-fn push_entry(new: &mut Vec<Placed>, place: u32, slot: Slot) -> Result<(), NoMemory>
-    ensures { OnOk result (new.new.items ≡ new.old.items ++ entry place slot) }
-{
-    match slot {
-        Slot::Same => {}
-        Slot::Put(cells) => {
-            let slot = Slot::Put(cells);
-            new.push(Placed { place, slot })?;
-        }
-        Slot::Dropped => {
-            let slot = Slot::Dropped;
-            new.push(Placed { place, slot })?;
-        }
-    }
-    Ok(())
-}
-
-/// Adds the slot after the statement of a row with this slot, unless the row is as it was. Gives 1 if the statement writes
-/// it, else 0.
+/// Adds the slot after the statement of a row with this slot, if the statement writes the row.
 fn push_slot(
     alloc: Global,
     new: &mut Vec<Placed>,
@@ -140,22 +84,21 @@ fn push_slot(
     place: u32,
     slot: Option<&Slot>,
     row: &Row,
-) -> Result<usize, NoMemory>
+) -> Result<(), NoMemory>
     requires { change_is_simple (change_view change.now) ≡ true }
-    ensures slot { IfOk result (λ count. new.new.items ≡ new.old.items
-        ++ entry place (changed_slot (change_view change.now)
-        (slot_or (option_map (λ slot. slot.now) slot.entry)) row.now)) }
-    ensures count { IfOk result (λ count. count ≡ one_if (is_touched
-        (change_view change.now) (slot_or (option_map (λ slot. slot.now) slot.entry)) row.now)) }
+    ensures { OnOk result (new.new.items ≡ new.old.items
+        ++ written_entry (change_view change.now) place
+        (slot_or (option_map (λ slot. slot.now) slot.entry)) row.now) }
 {
-    let after = changed_slot(alloc, change, slot, row)?;
-    let count = after.count;
-    push_entry(new, place, after.made)?;
-    Ok(count)
+    if let Some(cells) = written(alloc, change, seen(slot, row))? {
+        let slot = slot_of(cells);
+        new.push(Placed { place, slot })?;
+    }
+    Ok(())
 }
 
-/// Adds the slot after the statement of the row at a place, if the row has a slot. The slots begin at the place, or behind
-/// it. Gives 1 if the statement writes the row, else 0.
+/// Adds the slot after the statement of the row at a place, if the row has a slot and the statement writes it. The slots begin
+/// at the place, or behind it.
 fn push_place(
     alloc: Global,
     new: &mut Vec<Placed>,
@@ -165,24 +108,20 @@ fn push_place(
     carried: &CarriedRows,
     spans: &SpanList<'_>,
     v: u32,
-) -> Result<usize, NoMemory>
+) -> Result<(), NoMemory>
     requires { change_is_simple (change_view change.now) ≡ true }
-    ensures slot { IfOk result (λ count. new.new.items ≡ new.old.items
+    ensures { OnOk result (new.new.items ≡ new.old.items
         ++ made_of_slot (row_entry (change_view change.now) place)
         (first_at place ahead.now) (slotted_at carried.now v spans.now place)) }
-    ensures count { IfOk result (λ count. count
-        ≡ length (made_of_slot (row_touched (change_view change.now))
-        (first_at place ahead.now) (slotted_at carried.now v spans.now place))) }
-    ensures few { IfOk result (λ count. count ≤ 1) }
 {
     match slotted(spans, carried, v, place) {
-        None => Ok(0),
+        None => Ok(()),
         Some(span) => push_slot(alloc, new, change, place, first_at(ahead, place), &span.row),
     }
 }
 
-/// The slots of the rows of version v after the statement. It changes no rows at other places than these.
-fn changed_slots(
+/// The slots after the statement of the rows of version v that it writes. It writes no rows at other places than these.
+fn written_slots(
     alloc: Global,
     change: &Change<'_>,
     slots: &[Placed],
@@ -190,158 +129,203 @@ fn changed_slots(
     spans: &SpanList<'_>,
     v: u32,
     places: &[u32],
-) -> Result<Counted<Vec<Placed>>, NoMemory>
+) -> Result<Vec<Placed>, NoMemory>
     requires simple { change_is_simple (change_view change.now) ≡ true }
     requires ascending { IsAscending (map place_of slots.now) }
     requires enough { IsEnough (values.passes (cond_of (change_view change.now)))
         slots.now v spans.now places.now }
-    ensures slots { IfOk result (λ new. new.made.items ≡ changed_from
+    ensures { IfOk result (λ new. new.items ≡ written_from
         (change_view change.now) carried.now v slots.now 0 spans.now) }
-    ensures count { IfOk result (λ new. new.count ≡ count_touched (change_view change.now)
-        (overlaid (slots_from carried.now v slots.now 0 spans.now)
-        (slotted carried.now (rows_at unannotated v spans.now)))) }
-    ensures few { IfOk result (λ new. new.count ≤ length places.now) }
 {
     let mut new = Vec::new(alloc);
-    let mut count = 0usize;
     let mut ahead = slots;
     for place in places {
         ahead = seek(ahead, *place);
-        count += push_place(alloc, &mut new, change, ahead, *place, carried, spans, v)?;
+        push_place(alloc, &mut new, change, ahead, *place, carried, spans, v)?;
     }
-    Ok(Counted { made: new, count })
+    Ok(new)
 }
 
-/// The cells after the statement of a row that was written over an earlier version, and whether the statement writes it.
+/// The cells after the statement of a row that was written over an earlier version.
 fn cells_after(
     alloc: Global,
     change: &Change<'_>,
     row: &Option<Row>,
-) -> Result<Counted<Option<Row>>, NoMemory>
+) -> Result<Option<Row>, NoMemory>
     requires { change_is_simple (change_view change.now) ≡ true }
-    ensures row { IfOk result (λ new. new.made ≡ cells_after (change_view change.now) row.now) }
-    ensures count { IfOk result (λ new. new.count
-        ≡ one_if (passes_seen (change_view change.now) row.now)) }
+    ensures { IfOk result (λ new. new ≡ cells_after (change_view change.now) row.now) }
 {
     match written(alloc, change, row.as_ref())? {
-        Some(made) => Ok(Counted { made, count: 1 }),
-        None => Ok(Counted {
-            made: row.clone()?,
-            count: 0,
-        }),
+        Some(made) => Ok(made),
+        None => Ok(row.clone()?),
     }
 }
 
-/// Adds a row that was written over an earlier version, as it is after the statement. It keeps its base. Gives 1 if the
-/// statement writes it, else 0.
+/// Adds a row that was written over an earlier version, as it is after the statement. It keeps its base.
 fn push_carried(
     alloc: Global,
     new: &mut Vec<Carried>,
     change: &Change<'_>,
     carried: &Carried,
-) -> Result<usize, NoMemory>
+) -> Result<(), NoMemory>
     requires { change_is_simple (change_view change.now) ≡ true }
-    ensures row { IfOk result (λ count. new.new.items ≡ new.old.items
+    ensures { OnOk result (new.new.items ≡ new.old.items
         ++ carried_after (change_view change.now) carried.now ∷ []) }
-    ensures count { IfOk result (λ count. count
-        ≡ one_if (passes_seen (change_view change.now) carried.now.row)) }
 {
-    let after = cells_after(alloc, change, &carried.row)?;
+    let row = cells_after(alloc, change, &carried.row)?;
     let id = carried.id.clone()?;
     new.push(Carried {
         id,
         base: carried.base,
-        row: after.made,
+        row,
     })?;
-    Ok(after.count)
+    Ok(())
 }
 
-/// The rows that were written over earlier versions, after the statement.
+/// Whether the statement writes a row that was written over an earlier version.
+fn passes_carried(change: &Change<'_>, carried: &Carried) -> bool
+    requires { change_is_simple (change_view change.now) ≡ true }
+    ensures { result ≡ passes_seen (change_view change.now) carried.now.row }
+{
+    match &carried.row {
+        Some(cells) => passes(change, cells),
+        None => false,
+    }
+}
+
+/// How many of the rows that were written over earlier versions the statement writes.
+fn count_carried(change: &Change<'_>, carried: &[Carried]) -> usize
+    requires { change_is_simple (change_view change.now) ≡ true }
+    ensures count { result
+        ≡ count_touched (change_view change.now) (filter_map carried_row carried.now) }
+    ensures few { result ≤ length carried.now }
+{
+    let mut count = 0usize;
+    for row in carried {
+        if passes_carried(change, row) {
+            count += 1;
+        }
+    }
+    count
+}
+
+/// The rows that were written over earlier versions, after the statement. They are copied only if it writes one of them.
 fn changed_carried(
     alloc: Global,
     change: &Change<'_>,
     carried: &[Carried],
-) -> Result<Counted<Vec<Carried>>, NoMemory>
+) -> Result<Counted<CarriedRows>, NoMemory>
     requires { change_is_simple (change_view change.now) ≡ true }
-    ensures rows { IfOk result (λ new. new.made.items
+    ensures rows { IfOk result (λ new. made_or carried.now new.made
         ≡ changed_carried (change_view change.now) carried.now) }
     ensures count { IfOk result (λ new. new.count
         ≡ count_touched (change_view change.now) (filter_map carried_row carried.now)) }
     ensures few { IfOk result (λ new. new.count ≤ length carried.now) }
 {
-    let mut new = Vec::new(alloc);
-    let mut count = 0usize;
-    for row in carried {
-        count += push_carried(alloc, &mut new, change, row)?;
+    let count = count_carried(change, carried);
+    if count == 0 {
+        return Ok(Counted { made: None, count });
     }
-    Ok(Counted { made: new, count })
+    let mut new = Vec::with_capacity(alloc, carried.len())?;
+    for row in carried {
+        push_carried(alloc, &mut new, change, row)?;
+    }
+    let made = Some(CarriedRows::from_vec(alloc, new)?);
+    Ok(Counted { made, count })
 }
 
-/// Adds an inserted row as it is after the statement. Gives 1 if the statement writes it, else 0.
+/// Adds an inserted row as it is after the statement.
 fn push_changed(
     alloc: Global,
     new: &mut Sequence<Stored>,
     change: &Change<'_>,
     stored: &Stored,
-) -> Result<usize, NoMemory>
+) -> Result<(), NoMemory>
     requires { change_is_simple (change_view change.now) ≡ true }
-    ensures row { IfOk result (λ count. new.new ≡ new.old
+    ensures { OnOk result (new.new ≡ new.old
         ++ option_to_list (stored_after (effect (change_view change.now) stored.now.row) stored.now)) }
-    ensures count { IfOk result (λ count. count
-        ≡ one_if (values.passes (cond_of (change_view change.now)) stored.now.row)) }
 {
     match written(alloc, change, Some(&stored.row))? {
-        None => {
-            new.push(copied_row(stored)?)?;
-            Ok(0)
-        }
-        Some(None) => Ok(1),
+        None => new.push(copied_row(stored)?),
+        Some(None) => Ok(()),
         Some(Some(row)) => {
             let id = stored.id.clone()?;
-            new.push(Stored { id, row })?;
-            Ok(1)
+            new.push(Stored { id, row })
         }
     }
 }
 
-/// The inserted rows after the statement.
+/// How many of the inserted rows the statement writes.
+fn count_own(change: &Change<'_>, own: &[Stored]) -> usize
+    requires { change_is_simple (change_view change.now) ≡ true }
+    ensures count { result ≡ count_touched (change_view change.now) (map own_row own.now) }
+    ensures few { result ≤ length own.now }
+{
+    let mut count = 0usize;
+    for stored in own {
+        if passes(change, &stored.row) {
+            count += 1;
+        }
+    }
+    count
+}
+
+/// The inserted rows after the statement. They are copied only if it writes one of them.
 fn changed_own(
     alloc: Global,
     change: &Change<'_>,
     own: &[Stored],
 ) -> Result<Counted<Sequence<Stored>>, NoMemory>
     requires { change_is_simple (change_view change.now) ≡ true }
-    ensures own { IfOk result (λ new. new.made ≡ changed_own (change_view change.now) own.now) }
+    ensures own { IfOk result (λ new. made_or own.now new.made
+        ≡ changed_own (change_view change.now) own.now) }
     ensures count { IfOk result (λ new. new.count
         ≡ count_touched (change_view change.now) (map own_row own.now)) }
     ensures few { IfOk result (λ new. new.count ≤ length own.now) }
 {
-    let mut new = Sequence::new(alloc);
-    let mut count = 0usize;
-    for stored in own {
-        count += push_changed(alloc, &mut new, change, stored)?;
+    let count = count_own(change, own);
+    if count == 0 {
+        return Ok(Counted { made: None, count });
     }
-    Ok(Counted { made: new, count })
+    let mut new = Sequence::new(alloc);
+    for stored in own {
+        push_changed(alloc, &mut new, change, stored)?;
+    }
+    Ok(Counted {
+        made: Some(new),
+        count,
+    })
 }
 
-/// The writes of a table after an UPDATE or a DELETE, over the rows of the version below them.
-pub fn changed(
+/// Puts in what was made, if something was.
+fn put_made<T: Drop>(kept: &mut T, made: Option<T>)
+    ensures { kept.new ≡ made_or kept.old made }
+{
+    if let Some(made) = made {
+        *kept = made;
+    }
+}
+
+/// Puts what an UPDATE or a DELETE makes into the writes of a table, over the rows of the version below them. Gives the number
+/// of rows that it writes. The writes of rows that it does not write are not copied. If memory runs out, nothing changes.
+pub fn change_writes(
     alloc: Global,
-    writes: &TableWrites,
+    writes: &mut TableWrites,
     spans: &SpanList<'_>,
     change: &Change<'_>,
-) -> Result<Counted<TableWrites>, NoMemory>
+) -> Result<u32, NoMemory>
     requires { change_is_simple (change_view change.now) ≡ true }
-    ensures exact { IfOk result (λ new. new.made
-        ≡ changed_table (change_view change.now) spans.now writes.now) }
-    ensures count { IfOk result (λ new. new.count ≡ count_touched (change_view change.now)
-        (view_rows (overlay_of spans.now writes.now)
-        (rows_below (overlay_of spans.now writes.now) spans.now))) }
+    ensures exact { OnOk result (writes.new
+        ≡ changed_table (change_view change.now) spans.now writes.old) }
+    ensures count { IfOk result (λ count. count ≡ count_touched (change_view change.now)
+        (view_rows (overlay_of spans.now writes.old)
+        (rows_below (overlay_of spans.now writes.old) spans.now))) }
+    ensures err { OnErr result (writes.new ≡ writes.old) }
 {
     let version = writes.version;
     let cond = Some(change.cond());
     let places = places_for(alloc, spans, &writes.slots, version, cond)?;
-    let slots = changed_slots(
+    let slots = written_slots(
         alloc,
         change,
         writes.slots.as_slice(),
@@ -352,13 +336,9 @@ pub fn changed(
     )?;
     let carried = changed_carried(alloc, change, writes.carried.as_slice())?;
     let own = changed_own(alloc, change, writes.own.as_slice())?;
-    Ok(Counted {
-        made: TableWrites {
-            version,
-            slots: Slots::from_vec(slots.made),
-            carried: CarriedRows::from_vec(alloc, carried.made)?,
-            own: own.made,
-        },
-        count: slots.count + carried.count + own.count,
-    })
+    let count = number(slots.len() + carried.count + own.count)?;
+    writes.slots.put_all(alloc, slots)?;
+    put_made(&mut writes.carried, carried.made);
+    put_made(&mut writes.own, own.made);
+    Ok(count)
 }

@@ -1,12 +1,7 @@
-use Rattle.std.proofs.Common.{◌≡◌, ◌+◌, ◌≤◌, ◌++◌, map, drop}
+use Rattle.std.proofs.Common.{◌≡◌, ◌++◌, drop}
 use Rattle.gp_txn.specs.Changes.{change_view}
-use Rattle.gp_txn.specs.Overlay.{own_row}
-use Rattle.gp_txn.specs.Slots.{changed_own, count_touched}
+use Rattle.gp_txn.specs.Slots.{changed_own}
 use Rattle.gp_txn.proofs.update.changed_own.Given as goal
 
 abbrev pub invariant-loop-stored : goal.invariant-loop-stored
-invariant-loop-stored l = record {
-  rest : l.new ++ changed_own (change_view l.change) (drop l.stored-index l.own) ≡ changed_own (change_view l.change) l.own;
-  count : l.count + count_touched (change_view l.change) (map own_row (drop l.stored-index l.own)) ≡ count_touched (change_view l.change) (map own_row l.own);
-  few : l.count ≤ l.stored-index;
-}
+invariant-loop-stored l = l.new ++ changed_own (change_view l.change) (drop l.stored-index l.own) ≡ changed_own (change_view l.change) l.own

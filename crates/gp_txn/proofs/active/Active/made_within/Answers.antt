@@ -7,7 +7,7 @@ use Rattle.gp_algebra.specs.Views.{select_view}
 use Rattle.gp_txn.specs.Transactions.{AreOwn, view_at, writes_at}
 use Rattle.gp_txn.proofs.InsertLemmas.{made-new, when-made}
 use Rattle.gp_txn.proofs.OwnLemmas.{own-inserted}
-use Rattle.gp_txn.proofs.active.Active.made.Goals as goal
+use Rattle.gp_txn.proofs.active.Active.made_within.Goals as goal
 
 pub returns-clause-own : goal.returns-clause-own
 returns-clause-own c =
