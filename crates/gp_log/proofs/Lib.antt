@@ -8,5 +8,6 @@ pub mod KeptSessions
 pub mod LineCommands
 pub mod LoggedSessions
 pub mod NumberingLemmas
+pub mod ReadsLemmas
 pub mod SteadyLemmas
 pub mod VersionLemmas

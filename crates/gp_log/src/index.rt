@@ -1,18 +1,18 @@
 //! What a log keeps of each transaction and version, so that a question about one does not pass over the entries.
 
-ghost use Rattle.std.specs.Prelude.{◌≡◌, ℕ, suc, ◌<◌, ◌∷◌, ◌++◌, [], List, OnOk};
+ghost use Rattle.std.specs.Prelude.{◌≡◌, ℕ, suc, ◌<◌, ◌∷◌, ◌++◌, [], List, OnOk, Some};
 ghost use Rattle.std.specs.Option.{IfSome};
 ghost use Rattle.gp_algebra.specs.Statements.{Statement};
 ghost use Rattle.gp_grammar.specs.Syntax.{Command};
-ghost use Rattle.gp_log.specs.Indexing.{AreSteady, IsIndex, begun, known_of};
+ghost use Rattle.gp_log.specs.Indexing.{AreNoted, AreSteady, HasReads, IsIndex, begun, known_of};
 ghost use Rattle.gp_log.specs.Kinds.{HasNextNumber};
-ghost use Rattle.gp_log.specs.LogCounts.{numbered};
+ghost use Rattle.gp_log.specs.LogCounts.{numbered, version_read};
 ghost use Rattle.gp_log.specs.Logs.{what_view};
 ghost use Rattle.gp_machine.specs.Entries as m;
 ghost use Rattle.gp_machine.specs.Entries.{committer_of, fate_of_end, statement_count, versions_in};
 
 use crate::entry::What;
-use gp_base::{Fate, NoMemory};
+use gp_base::{Fate, NoMemory, Sequence};
 use std::alloc::Global;
 
 /// What is known of a transaction.
@@ -52,6 +52,11 @@ pub struct Index {
     pub firsts: Vec<u32>,
     /// The transactions that made the versions, from version 1 on. There are as many places as transactions.
     pub committers: Vec<u32>,
+    /// For each transaction that is read committed the versions that its statements read, from the first one on, as far as there
+    /// was memory for them.
+    pub reads: Vec<Sequence<u32>>,
+    /// The memory.
+    pub alloc: Global,
     /// Whether each transaction is known. It is not if memory ran out, or if one has another number than the next.
     pub is_complete: bool,
 }
@@ -74,16 +79,31 @@ fn note_first(firsts: &mut [u32], t: u32, k: u32, place: u32) {
     }
 }
 
+/// Keeps the version that a statement of this number reads, if those are kept that the statements before it read.
+fn note_version(reads: &mut [Sequence<u32>], t: u32, k: u32, version: u32) -> Result<(), NoMemory>
+    ensures { OnOk result (AreNoted t k version reads.old reads.new) }
+{
+    match place_of(t, reads.len()) {
+        Some(place) if reads[place].as_slice().len() + 1 == k as usize => {
+            reads[place].push(version)
+        }
+        _ => Ok(()),
+    }
+}
+
 impl Index {
     /// The index of an empty log, which takes no memory.
     #[tactic(auto, using(crate::proofs::SteadyLemmas::steady_none))]
     pub fn new(alloc: Global) -> Index
-        ensures { IsIndex result [] }
+        ensures index { IsIndex result [] }
+        ensures reads { HasReads result [] }
     {
         Index {
             transactions: Vec::new(alloc),
             firsts: Vec::new(alloc),
             committers: Vec::new(alloc),
+            reads: Vec::new(alloc),
+            alloc,
             is_complete: true,
         }
     }
@@ -113,9 +133,23 @@ impl Index {
         }
     }
 
+    /// The version that a statement of this number in a transaction read, if the index has it.
+    pub fn read(&self, t: u32, k: u32) -> Option<u32>
+        ensures { (log : List m.Entry) → HasReads self.now log
+            → IfSome result (λ version. version_read t k log ≡ Some version) }
+    {
+        if !self.is_complete {
+            return None;
+        }
+        let reads = &self.reads[place_of(t, self.reads.len())?];
+        let place = place_of(k, reads.as_slice().len())?;
+        Some(reads.as_slice()[place])
+    }
+
     /// Makes a place for a transaction that begins at this version.
     fn push(&mut self, version: u32, read_committed: bool) -> Result<(), NoMemory>
         ensures flag { self.new.is_complete ≡ self.old.is_complete }
+        ensures reads { OnOk result (self.new.reads.items ≡ self.old.reads.items ++ [] ∷ []) }
         ensures transactions { OnOk result (self.new.transactions.items
             ≡ self.old.transactions.items ++ begun version read_committed ∷ []) }
         ensures committers { OnOk result (self.new.committers.items
@@ -123,6 +157,7 @@ impl Index {
     {
         self.committers.push(0)?;
         self.firsts.push(0)?;
+        self.reads.push(Sequence::new(self.alloc))?;
         self.transactions.push(Known {
             begin: version,
             read_committed,
@@ -136,9 +171,11 @@ impl Index {
     /// A transaction begins at this version. If it has another number than the next, or if memory runs out, the index is not
     /// complete any more.
     fn begin(&mut self, t: u32, version: u32, read_committed: bool)
-        ensures { (log : List m.Entry) (line session : ℕ) → version ≡ versions_in log
+        ensures index { (log : List m.Entry) (line session : ℕ) → version ≡ versions_in log
             → IsIndex self.old log
             → IsIndex self.new (m.Began line session t read_committed ∷ log) }
+        ensures reads { (log : List m.Entry) (line session : ℕ) → HasReads self.old log
+            → HasReads self.new (m.Began line session t read_committed ∷ log) }
     {
         if t as usize != self.transactions.len() + 1 {
             self.is_complete = false;
@@ -150,10 +187,31 @@ impl Index {
         }
     }
 
+    /// Keeps the version that a statement of this number reads, where the log has so many commits, if its transaction is read
+    /// committed.
+    fn note_read(&mut self, t: u32, k: u32, commits: u32)
+        ensures index { (log : List m.Entry) → IsIndex self.old log → IsIndex self.new log }
+        ensures reads { (log : List m.Entry) (line session : ℕ) (command : Command)
+            (statement : Statement) → commits ≡ versions_in log
+            → k ≡ suc (statement_count t log) → IsIndex self.old log → HasReads self.old log
+            → HasReads self.new (m.Ran line session command t statement ∷ log) }
+    {
+        match self.known(t) {
+            Some(known) if known.read_committed => {
+                match note_version(&mut self.reads, t, k, commits) {
+                    Ok(()) => {}
+                    Err(_) => self.is_complete = false,
+                }
+            }
+            _ => {}
+        }
+    }
+
     /// A transaction runs a statement of this number.
     #[tactic(auto, using(crate::proofs::SteadyLemmas::steady_ran))]
     fn run(&mut self, t: u32, k: u32)
-        ensures { (log : List m.Entry) (line session : ℕ) (command : Command) (statement : Statement)
+        ensures reads { (log : List m.Entry) → HasReads self.old log → HasReads self.new log }
+        ensures index { (log : List m.Entry) (line session : ℕ) (command : Command) (statement : Statement)
             → k ≡ suc (statement_count t log) → IsIndex self.old log
             → IsIndex self.new (m.Ran line session command t statement ∷ log) }
     {
@@ -166,8 +224,9 @@ impl Index {
     /// A transaction ends without a version.
     #[tactic(auto, using(crate::proofs::SteadyLemmas::steady_ended))]
     fn end(&mut self, t: u32, fate: Fate)
-        ensures { (log : List m.Entry) (line session : ℕ) (how : m.End) → fate ≡ fate_of_end how
+        ensures index { (log : List m.Entry) (line session : ℕ) (how : m.End) → fate ≡ fate_of_end how
             → IsIndex self.old log → IsIndex self.new (m.Ended line session how t ∷ log) }
+        ensures reads { (log : List m.Entry) → HasReads self.old log → HasReads self.new log }
     {
         match place_of(t, self.transactions.len()) {
             Some(place) => self.transactions[place].fate = fate,
@@ -178,8 +237,9 @@ impl Index {
     /// A transaction makes this version.
     #[tactic(auto, using(crate::proofs::SteadyLemmas::steady_committed))]
     fn commit(&mut self, t: u32, version: u32)
-        ensures { (log : List m.Entry) (line session : ℕ) → version ≡ suc (versions_in log)
+        ensures index { (log : List m.Entry) (line session : ℕ) → version ≡ suc (versions_in log)
             → IsIndex self.old log → IsIndex self.new (m.Committed line session t ∷ log) }
+        ensures reads { (log : List m.Entry) → HasReads self.old log → HasReads self.new log }
     {
         let place = place_of(t, self.transactions.len());
         let made = place_of(version, self.committers.len());
@@ -206,16 +266,21 @@ impl Index {
 
     /// Adds an entry of the log, which stands at this place, where the log has so many commits with it.
     pub fn add(&mut self, place: u32, commits: u32, t: u32, what: &What)
-        ensures { (log : List m.Entry) (line session : ℕ)
+        ensures index { (log : List m.Entry) (line session : ℕ)
             → commits ≡ versions_in (what_view line session t what.now ∷ log)
             → HasNextNumber log t what.now → IsIndex self.old log
             → IsIndex self.new (what_view line session t what.now ∷ log) }
+        ensures reads { (log : List m.Entry) (line session : ℕ)
+            → commits ≡ versions_in (what_view line session t what.now ∷ log)
+            → HasNextNumber log t what.now → IsIndex self.old log → HasReads self.old log
+            → HasReads self.new (what_view line session t what.now ∷ log) }
     {
         match what {
             What::Create(_) => {}
             What::Begin { read_committed } => self.begin(t, commits, *read_committed),
             What::Statement { k, .. } => {
                 note_first(&mut self.firsts, t, *k, place);
+                self.note_read(t, *k, commits);
                 self.run(t, *k);
             }
             What::Commit => self.commit(t, commits),

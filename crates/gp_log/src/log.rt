@@ -37,7 +37,7 @@ pub struct Log {
 
 impl Model for Log {
     ghost use Rattle.std.specs.Prelude.{◌≡◌, ◌≤◌, ◌<◌, ◌+◌, ◌-◌, ◌^◌, if◌then◌else◌, vec_len, vec_capacity};
-    ghost use Rattle.gp_log.specs.Indexing.{IsIndex};
+    ghost use Rattle.gp_log.specs.Indexing.{HasReads, IsIndex};
     ghost use Rattle.gp_log.specs.Kinds.{AreNumbered};
     ghost use Rattle.gp_log.specs.LogFacts.{tables_in};
     ghost use Rattle.gp_log.specs.LogCounts.{ends_in};
@@ -59,7 +59,8 @@ impl Model for Log {
         × AreNumbered a.entries.items
         × IsIndex a.index (log_view a.entries.items)
         × (vec_len a.entries < 2 ^ 32)
-        × (vec_len a.entries + (a.begun - a.ended) + (if a.ready then 1 else 0) ≤ vec_capacity a.entries) };
+        × (vec_len a.entries + (a.begun - a.ended) + (if a.ready then 1 else 0) ≤ vec_capacity a.entries)
+        × HasReads a.index (log_view a.entries.items) };
 }
 
 /// 1 where the entry begins a transaction.
@@ -345,9 +346,12 @@ impl Log {
             (statement_at t k (entries self.now)) }
     {
         match self.index.known(t) {
-            // A pass over the entries for each statement would be slow in a history without the words.
+            // A pass over the entries for each statement would be slow.
             Some(known) if !known.read_committed => known.steady_version(k),
-            _ => facts::statement_version(&self.entries, t, k),
+            _ => match self.index.read(t, k) {
+                Some(version) => Some(version),
+                None => facts::statement_version(&self.entries, t, k),
+            },
         }
     }
 
