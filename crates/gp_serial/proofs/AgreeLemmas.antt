@@ -1,9 +1,5 @@
 -- Relations that agree on some numbers have the same orders and the same least cycle of them.
-use Rattle.std.proofs.Common.{◌≡◌, ℕ, zero, suc, Bool, true, false, cond, List, [], ◌∷◌, ◌++◌, map, length, Option, Some, None, refl, ap, ◌∙◌}
-use Rattle.std.specs.Prelude.{◌==◌, ◌&&◌, ◌||◌, filter, find, not, unwrap_or}
-use Rattle.std.specs.List.{AllByRecursion, flat_map, list_any}
-use Rattle.std.specs.Option.{option_map_or}
-use Rattle.gp_machine.specs.Precedence.{numbers}
+use Rattle.gp_serial.proofs.Prelude.{◌≡◌, ℕ, zero, suc, Bool, true, false, cond, List, [], ◌∷◌, ◌++◌, map, length, Option, Some, None, refl, ap, ◌∙◌, ◌==◌, ◌&&◌, ◌||◌, filter, find, not, unwrap_or, AllByRecursion, flat_map, list_any, option_map_or, numbers}
 use Rattle.gp_serial.specs.Graphs.{closes, is_cycle, is_free, least_cycle, lists_of, ordered}
 
 each_filter : {A : Type 0} (P : A → Type 0) (p : A → Bool) (xs : List A) → AllByRecursion P xs → AllByRecursion P (filter p xs)

@@ -1,14 +1,5 @@
 -- Whether an element of a list passes, and which one.
-use Rattle.std.proofs.Common.{◌≡◌, ◌+◌, ℕ, zero, suc, Bool, true, false, cond, List, [], ◌∷◌, ◌++◌, length, map, Some, refl, sym, ap, ◌∙◌, arith}
-use Rattle.std.specs.Prelude.{◌&&◌, ◌||◌, filter, nat_lt, slice_get}
-use Rattle.std.specs.List.{flat_map, list_any}
-use Rattle.std.specs.Option.{option_map}
-use Rattle.std.proofs.lemmas.Bool.{false≢true}
-use Rattle.std.proofs.lemmas.Bool.Decides.{nat_tests}
-use Rattle.std.proofs.lemmas.List.Folds.{list_any-append}
-use Rattle.std.proofs.lemmas.Option.{same_Some, slice_get-map}
-use Rattle.gp_base.proofs.SmallLemmas.{or_nothing, some_none}
-use Rattle.gp_machine.specs.Precedence.{numbers}
+use Rattle.gp_serial.proofs.Prelude.{◌≡◌, ◌+◌, ℕ, zero, suc, Bool, true, false, cond, List, [], ◌∷◌, ◌++◌, length, map, Some, refl, sym, ap, ◌∙◌, arith, ◌&&◌, ◌||◌, filter, nat_lt, slice_get, flat_map, list_any, false≢true, nat_tests, list_any-append, same_Some, or_nothing, some_none, numbers}
 
 pub by_both : (x y : Bool) → (x ≡ true → y ≡ true) → (y ≡ true → x ≡ true) → x ≡ y
 by_both true true f g = refl
@@ -51,9 +42,6 @@ pub mapped_elim : {A B : Type 0} (Q : Type 0) (f : A → B) (xs : List A) (i : �
 mapped_elim Q f [] i y at found = absurd (some_none y (sym at))
 mapped_elim Q f (x ∷ xs) zero y at found = found x refl (same_Some (f x) y at)
 mapped_elim Q f (x ∷ xs) (suc i) y at found = mapped_elim Q f xs i y at found
-
-pub mapped_intro : {A B : Type 0} (f : A → B) (xs : List A) (i : ℕ) (x : A) → slice_get xs i ≡ Some x → slice_get (map f xs) i ≡ Some (f x)
-mapped_intro f xs i x at = slice_get-map f xs i ∙ ap (option_map f) at
 
 -- ---- whether there is any
 

@@ -1,25 +1,8 @@
 -- A log and its serial one, with what the replay of that made, can be compared; and what the comparison says.
-use Rattle.std.proofs.Common.{◌≡◌, ◌<◌, ℕ, zero, suc, Bool, true, false, List, [], ◌∷◌, get_or, length, Some, None, Result, Ok, Err, refl, sym, ap, ◌∙◌, subst, arith}
-use Rattle.std.specs.Prelude.{◌&&◌, is_none, Contains}
-use Rattle.std.specs.List.{AllByRecursion, list_all}
-use Rattle.std.proofs.lemmas.Grind.{get_or_default_zero}
-use Rattle.gp_base.specs.Annotated.{unannotated}
-use Rattle.gp_versions.specs.Spans.{Versions}
-use Rattle.gp_machine.specs.Entries.{Entry, log_of, statement_at, statement_count, versions_in}
-use Rattle.gp_machine.specs.HistorySpans.{as_of}
-use Rattle.gp_machine.specs.Points.{run_stop}
-use Rattle.gp_machine.specs.Questions.{is_known}
+use Rattle.gp_serial.proofs.Prelude.{◌≡◌, ◌<◌, ℕ, zero, suc, Bool, true, false, List, [], ◌∷◌, get_or, length, Some, None, Result, Ok, Err, refl, sym, ap, ◌∙◌, subst, arith, ◌&&◌, is_none, Contains, AllByRecursion, list_all, get_or_default_zero, unannotated, Versions, Entry, log_of, statement_at, statement_count, versions_in, as_of, run_stop, is_known, replay_stop, serial_log, entries, tables, tables_in, SpansFit, Logged, parameters, spans_of, IsMade, IsReplayable}
 use Rattle.gp_machine.specs.Replaying as m
-use Rattle.gp_machine.specs.Replaying.{replay_stop}
 use Rattle.gp_machine.specs.SerialRuns as r
-use Rattle.gp_machine.specs.SerialRuns.{serial_log}
-use Rattle.gp_log.specs.Contents.{entries, tables}
-use Rattle.gp_log.specs.LogFacts.{tables_in}
-use Rattle.gp_log.specs.LogFitting.{SpansFit}
-use Rattle.gp_log.specs.Logs.{Logged}
-use Rattle.gp_log.specs.Parameters.{parameters}
-use Rattle.gp_reenact.specs.Reenacting.{spans_of}
-use Rattle.gp_whatif.specs.Replays.{IsMade, IsReplayable, Stops, stop_upto}
+use Rattle.gp_whatif.specs.Replays.{Stops, stop_upto}
 use Rattle.gp_whatif.specs.declared.error.ReplayStop.{ReplayStop}
 use Rattle.gp_whatif.specs.declared.error.ReplayStop.TheVariants as replay
 use Rattle.gp_serial.specs.declared.error.SerialStop.{SerialStop}

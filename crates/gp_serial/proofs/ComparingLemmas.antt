@@ -1,26 +1,9 @@
 -- What statements do over the row versions of two logs, by what each shows.
-use Rattle.std.proofs.Common.{Global, Vec, ◌≡◌, ◌<◌, ◌≤◌, ◌+◌, ℕ, zero, suc, Bool, true, false, List, [], ◌∷◌, length, drop, get_or, Option, Some, None, Ok, Err, refl, sym, ap, ◌∙◌, subst, arith, add-one, ⊎_elim}
-use Rattle.std.specs.Prelude.{◌&&◌, ◌||◌, not}
-use Rattle.std.specs.List.{list_all}
-use Rattle.std.specs.Option.{option_map, option_map_or}
-use Rattle.std.proofs.lemmas.Bool.{cases_lt}
-use Rattle.std.proofs.lemmas.List.{drop_more, get_or_default}
-use Rattle.gp_base.specs.declared.cell.Cell.{Cell}
-use Rattle.gp_base.specs.Annotated.{unannotated}
-use Rattle.gp_base.specs.Order.{row_cmp, sorted_by}
-use Rattle.gp_base.proofs.SmallLemmas.{and_none, some_none}
-use Rattle.gp_algebra.specs.Statements.{Statement}
-use Rattle.gp_log.specs.Parameters.{parameters}
-use Rattle.gp_machine.specs.Entries.{Entry, log_of, statement_at, statement_count}
-use Rattle.gp_machine.specs.Event.{is_over_answer}
-use Rattle.gp_machine.specs.HistorySpans.{as_of}
-use Rattle.gp_machine.specs.Points.{run_stop}
-use Rattle.gp_machine.specs.Questions.{stop_refusal}
+use Rattle.gp_serial.proofs.Prelude.{Global, Vec, ◌≡◌, ◌<◌, ◌≤◌, ◌+◌, ℕ, zero, suc, Bool, true, false, List, [], ◌∷◌, length, drop, get_or, Option, Some, None, Ok, Err, refl, sym, ap, ◌∙◌, subst, arith, add-one, ⊎_elim, ◌&&◌, ◌||◌, not, list_all, option_map, option_map_or, cases_lt, drop_more, Cell, unannotated, row_cmp, sorted_by, some_none, Statement, parameters, Entry, log_of, statement_at, statement_count, is_over_answer, as_of, run_stop, stop_refusal, spans_of, Versions, Span}
+use Rattle.std.proofs.lemmas.List.{get_or_default}
+use Rattle.gp_base.proofs.SmallLemmas.{and_none}
 use Rattle.gp_machine.specs.SerialRuns as m
-use Rattle.gp_reenact.specs.Reenacting.{spans_of}
 use Rattle.gp_reenact.specs.Travel.{no_table}
-use Rattle.gp_versions.specs.Spans.{Versions}
-use Rattle.gp_versions.specs.declared.span.Span.{Span}
 use Rattle.gp_serial.specs.declared.error.SerialStop.{SerialStop}
 use Rattle.gp_serial.specs.declared.error.SerialStop.TheVariants.{NoMemory, Refused}
 use Rattle.gp_serial.specs.Comparing.{ComparesAll, ComparesStatements, ComparesTransaction, before_of, before_other, does_same, next_does_same, passes_first}
@@ -40,13 +23,6 @@ fails_first test (suc n) k l fails =
   where
     same : n ≤ k → n ≡ k
     same above = omega (arith, above, l)
-
-pub passes_next : (test : ℕ → Bool) (n : ℕ) → passes_first test n ≡ true → test n ≡ true → passes_first test (n + 1) ≡ true
-passes_next test n all own = subst (λ m. passes_first test m ≡ true) (sym (add-one n)) (λ i. all i && own i)
-
-pub passes_agree : (test other : ℕ → Bool) (n : ℕ) → ((k : ℕ) → k < n → test k ≡ other k) → passes_first test n ≡ passes_first other n
-passes_agree test other zero same = refl
-passes_agree test other (suc n) same = λ i. passes_agree test other n (λ k l. same k (omega (arith, l))) i && same n (omega arith) i
 
 -- ---- one statement
 
@@ -96,12 +72,6 @@ stop_compares entries spans others made t stop is = subst (λ stop. ComparesTran
 
 -- ---- lists
 
--- a list of which one does not pass
-pub fails_all : (p : ℕ → Bool) (list : List ℕ) (i : ℕ) → i < length list → p (get_or list i 0) ≡ false → list_all p list ≡ false
-fails_all p [] i l fails = absurd (omega (arith, l))
-fails_all p (t ∷ list) zero l fails = ap (λ b. b && list_all p list) fails
-fails_all p (t ∷ list) (suc i) l fails = ap (λ b. p t && b) (fails_all p list i (omega (arith, l)) fails) ∙ and_none (p t)
-
 pub all_agree : (p q : ℕ → Bool) (list : List ℕ) → ((u : ℕ) → u < length list → p (get_or list u 0) ≡ q (get_or list u 0)) → list_all p list ≡ list_all q list
 all_agree p q [] same = refl
 all_agree p q (t ∷ list) same = λ i. same 0 (omega arith) i && all_agree p q list (λ u l. same (suc u) (omega (arith, l))) i
@@ -120,10 +90,6 @@ pub stop_compares_ends : (entries : List Entry) (versions : List Versions) (othe
     → ComparesStatements entries versions others made order (Err stop) → ComparesAll entries versions others made order (Err stop)
 stop_compares_ends entries versions others made order NoMemory e = tt
 stop_compares_ends entries versions others made order (Refused refusal) e = e
-
-pub no_memory_ends : (entries : List Entry) (versions : List Versions) (others : List Entry) (made : List Versions) (order : List ℕ) (stop : SerialStop) → stop ≡ NoMemory
-    → ComparesAll entries versions others made order (Err stop)
-no_memory_ends entries versions others made order stop is = subst (λ stop. ComparesAll entries versions others made order (Err stop)) (sym is) tt
 
 -- the row versions of a table at its place
 pub spans_there : (versions : List Versions) (place : ℕ) (own : Versions) → place < length versions → own ≡ get_or versions place own → own.spans ≡ spans_of versions place

@@ -1,14 +1,9 @@
 -- The search by levels finds the first cycle of a length that begins at a number, and so the first of the shortest ones.
-use Rattle.std.proofs.Common.{◌≡◌, ◌<◌, ◌≤◌, ◌-◌, ℕ, zero, suc, Bool, true, false, cond, List, [], ◌∷◌, ◌++◌, map, length, drop, get_or, append_assoc, Option, Some, None, refl, sym, ap, ◌∙◌, subst, arith}
-use Rattle.std.specs.Prelude.{◌+◌, ◌&&◌, ◌||◌, find, is_some, slice_get, unwrap_or}
+use Rattle.gp_serial.proofs.Prelude.{◌≡◌, ◌<◌, ◌≤◌, ◌-◌, ℕ, zero, suc, Bool, true, false, cond, List, [], ◌∷◌, ◌++◌, map, length, drop, get_or, Option, Some, None, refl, sym, ap, ◌∙◌, subst, arith, ◌&&◌, ◌||◌, find, slice_get, unwrap_or, flat_map, list_any, option_map, option_map_or, option_or, false≢true, drop_more, get_or-map, get_or_append_left, length-map, find-append, get_or_from_slice_get, none-some, same_Some, slice_get_within, numbers}
+use Rattle.std.proofs.Common.{append_assoc}
+use Rattle.std.specs.Prelude.{◌+◌, is_some}
 use borrow.Author.Count.{below_more}
-use Rattle.std.specs.List.{flat_map, list_any}
-use Rattle.std.specs.Option.{option_map, option_map_or, option_or}
-use Rattle.std.proofs.lemmas.Bool.{false≢true}
-use Rattle.std.proofs.lemmas.List.{append-nil, drop_more, get_or-map, get_or_append_left, get_or_push, length-map, length_push}
-use Rattle.std.proofs.lemmas.List.Folds.{find-append}
-use Rattle.std.proofs.lemmas.Option.{get_or_from_slice_get, none-some, same_Some, slice_get_within}
-use Rattle.gp_machine.specs.Precedence.{numbers}
+use Rattle.std.proofs.lemmas.List.{get_or_push, length_push}
 use Rattle.gp_serial.specs.CycleForms.{AreLevels, AreReaching, first_cycle, first_step, first_walk, reaches, shortest_for, shortest_from}
 use Rattle.gp_serial.specs.Graphs.{closes, is_cycle, least_cycle, lists_of}
 
@@ -192,10 +187,6 @@ module _ (is_before : ℕ → ℕ → Bool) (all : List ℕ) where
             by (is_before from to) (reaches is_before all last steps to) to (first_step is_before from tos (map (reaches is_before all last steps) tos))
             ∙ ap (λ rest. (is_before from to && reaches is_before all last steps to) || rest) (among tos)
 
-    -- the flags of no step, and those of one more than the last
-    pub level_first : (steps : ℕ) (levels : List (List Bool)) → AreLevels is_before all last steps levels → length levels ≡ 0 → steps ≡ 0
-    level_first steps levels are none = sym are.count ∙ none
-
     pub level_next : (steps more : ℕ) (levels : List (List Bool)) → AreLevels is_before all last steps levels → length levels ≡ suc more
         → map (λ from. is_some (first_step is_before from all (get_or levels more []))) all ≡ map (reaches is_before all last steps) all
     level_next steps more levels are long =
@@ -210,9 +201,6 @@ module _ (is_before : ℕ → ℕ → Bool) (all : List ℕ) where
     level_at flags steps below levels level are less is =
         let within : steps < length levels = omega (arith, less, are.count, length-map levels flags) in
         ap flags is ∙ sym (get_or-map flags levels steps level [] within) ∙ are.each steps less
-
-    pub levels_none : AreLevels is_before all last 0 []
-    levels_none = record { count = refl; each = λ steps below. absurd (omega (arith, below)) }
 
     pub level_pushed : (steps : ℕ) (levels : List (List Bool)) (flags : List Bool) → AreLevels is_before all last steps levels → AreReaching is_before all last steps flags
         → AreLevels is_before all last (steps + 1) (levels ++ flags ∷ [])
@@ -250,16 +238,6 @@ module _ (is_before : ℕ → ℕ → Bool) (all : List ℕ) where
       → option_map (λ (others : List ℕ). cycle ++ others) (first_path first left last) ≡ None
   walk_stops first last left steps cycle one step =
       ap (λ n. option_map (λ (others : List ℕ). cycle ++ others) (first_path first n last)) one ∙ ap (option_map (λ (others : List ℕ). cycle ++ others)) (step_none first steps last step)
-
-  -- the last number leads back, or does not
-  pub walk_ends : (first last left : ℕ) (cycle : List ℕ) (b : Bool) → left ≡ 0 → is_before last first ≡ b
-      → option_map (λ (others : List ℕ). cycle ++ others) (first_path first left last) ≡ cond b (Some cycle) None
-  walk_ends first last left cycle b none is =
-      ap (λ n. option_map (λ (others : List ℕ). cycle ++ others) (first_path first n last)) none ∙ by (is_before last first) ∙ ap (λ b. cond b (Some cycle) None) is
-    where
-      by : (b : Bool) → option_map (λ (others : List ℕ). cycle ++ others) (cond b (Some []) None) ≡ cond b (Some cycle) None
-      by true = ap Some (append-nil cycle)
-      by false = refl
 
   -- the first cycle that begins at one of these numbers
   pub cycle_is : (more : ℕ) (firsts : List ℕ) → first_cycle is_before all (suc more) firsts

@@ -1,36 +1,21 @@
 -- The row versions of commits made again fit the tables of their log.
-use Rattle.std.proofs.Common.{◌≡◌, ℕ, zero, suc, ◌==◌, true, false, cond, List, length, Option, Some, None}
-use Rattle.std.specs.Prelude.{◌&&◌, ◌-◌, not}
-use Rattle.std.specs.List.{AllByRecursion, filter, list_all}
-use Rattle.std.proofs.lemmas.Bool.{eq-eqb}
-use Rattle.gp_base.specs.declared.cell.Cell.{Cell}
+use Rattle.gp_serial.proofs.Prelude.{◌≡◌, ℕ, zero, suc, true, false, cond, List, length, Option, Some, None, ◌&&◌, not, AllByRecursion, list_all, eq-eqb, Cell, Table, Annotated, Database, Environment, unannotated, width_of, Statement, pairs, next_version, Entry, Log, log_of, run_stop, statement_stop, publish, Seen, Replay, replay_stop, replayed, rerun, version_stop, refreshed, run, run_before, stepped, parameters, tables_in, SpanFits, SpansFit, statements_fit, FitsIfSome, logged_fits, each_append, each_map, none_parts}
+use Rattle.std.proofs.Common.{◌==◌}
+use Rattle.std.specs.Prelude.{◌-◌}
+use Rattle.std.specs.List.{filter}
 use Rattle.gp_base.specs.declared.row_id.TheConstants.{MAX_NODES}
-use Rattle.gp_base.specs.declared.table.Table.{Table}
-use Rattle.gp_base.specs.Annotated.{Annotated, Database, Environment, unannotated}
 use Rattle.gp_base.specs.UserCells.{is_user_cell}
 use Rattle.gp_algebra.specs.Effects.{Written}
 use Rattle.gp_algebra.specs.Fitting.{row_fits}
-use Rattle.gp_algebra.specs.Statements.{width_of}
-use Rattle.gp_algebra.specs.Statements.{Statement}
-use Rattle.gp_machine.specs.Bases.{pairs}
-use Rattle.gp_machine.specs.Committed.{is_written, merged, next_version, unmarked}
-use Rattle.gp_machine.specs.Entries.{Entry, Log, log_of}
+use Rattle.gp_machine.specs.Committed.{is_written, merged, unmarked}
 use Rattle.gp_machine.specs.HistorySpans.{span_from, spans_upto}
-use Rattle.gp_machine.specs.Points.{run_stop, statement_stop}
-use Rattle.gp_machine.specs.Publishing.{publish, was_written}
-use Rattle.gp_machine.specs.Reading.{Seen}
-use Rattle.gp_machine.specs.Replaying.{Replay, replay_stop, replayed, rerun, version_stop}
+use Rattle.gp_machine.specs.Publishing.{was_written}
 use Rattle.gp_machine.specs.ReplayForms.{replayed_spans}
-use Rattle.gp_machine.specs.Runs.{refreshed, run, run_before, stepped}
 use Rattle.gp_machine.proofs.Distinct.{each_both, each_filter, each_weaker}
 use Rattle.gp_machine.proofs.ReplayLemmas.{unstopped}
-use Rattle.gp_log.specs.Parameters.{parameters}
-use Rattle.gp_log.specs.LogFacts.{tables_in}
-use Rattle.gp_log.specs.LogFitting.{SpanFits, SpansFit, statements_fit}
 use Rattle.gp_rewrite.specs.Meaning.{AreAsWide}
 use Rattle.gp_rewrite.proofs.WidthLemmas.{step_wide}
-use Rattle.gp_reenact.proofs.HeldLemmas.{AreHeld, FitsIfSome, IsHeld, held_step, logged_fits}
-use Rattle.gp_base.proofs.SmallLemmas.{each_append, each_map, none_parts}
+use Rattle.gp_reenact.proofs.HeldLemmas.{AreHeld, IsHeld, held_step}
 
 abbrev Rows : Type 0
 Rows = Database (Unit {0})

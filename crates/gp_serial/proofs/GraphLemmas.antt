@@ -1,11 +1,9 @@
 -- What a relation is after a flag was set, and the flags of one that is empty.
-use Rattle.std.proofs.Common.{◌≡◌, ◌<◌, ◌≤◌, ℕ, zero, suc, Bool, true, false, List, [], ◌∷◌, length, get_or, map, replicate, set, refl, sym, ap, ◌∙◌, subst, arith, get_or-set_other, get_or-set_same, inl, inr}
-use Rattle.std.specs.Prelude.{Vec, ◌&&◌, ◌||◌, ◌==◌}
-use Rattle.std.specs.List.{AllByRecursion}
+use Rattle.gp_serial.proofs.Prelude.{◌≡◌, ◌<◌, ℕ, zero, suc, Bool, true, false, List, [], ◌∷◌, length, get_or, map, refl, sym, ap, ◌∙◌, subst, arith, inl, inr, ◌&&◌, ◌||◌, ◌==◌, AllByRecursion, cases_eq, eq-eqb, ne_eqb, get_or-map, length-map, or_nothing}
+use Rattle.std.proofs.Common.{replicate, set, get_or-set_other, get_or-set_same}
+use Rattle.std.specs.Prelude.{Vec}
 use Rattle.std.specs.declared.alloc.Global.{Global}
-use Rattle.std.proofs.lemmas.Bool.{cases_eq, eq-eqb, ne_eqb}
-use Rattle.std.proofs.lemmas.List.{get_or-map, length-map, length-replicate, map-set}
-use Rattle.gp_base.proofs.SmallLemmas.{or_nothing}
+use Rattle.std.proofs.lemmas.List.{length-replicate, map-set}
 use Rattle.gp_serial.specs.Relations.{is_edge}
 
 -- ---- rows of one length
@@ -23,11 +21,6 @@ pub rows_square : (n : ℕ) (rows : List (Vec Bool Global)) → map (λ (row : V
 rows_square n rows e =
     let count : length rows ≡ n = sym (length-map rows (λ (row : Vec Bool Global). row.items)) ∙ ap length e ∙ length-replicate n (replicate n false) in
     subst (λ m. AllByRecursion (λ (row : Vec Bool Global). length row.items ≡ m) rows) (sym count) (rows_even n n rows e)
-
-pub each_set : {A : Type 0} (P : A → Type 0) (xs : List A) (i : ℕ) (y : A) → AllByRecursion P xs → P y → AllByRecursion P (set xs i y)
-each_set P [] i y each own = tt
-each_set P (x ∷ xs) zero y each own = (own, each.1)
-each_set P (x ∷ xs) (suc i) y each own = (each.0, each_set P xs i y each.1 own)
 
 pub each_at : {A : Type 0} (P : A → Type 0) (xs : List A) → AllByRecursion P xs → (i : ℕ) (d : A) → i < length xs → P (get_or xs i d)
 each_at P [] each i d within = absurd (omega (arith, within))
@@ -59,10 +52,6 @@ edge_added rows a b x y there within =
       | inr other ↦ rw (ne_eqb x a other) (
           ap (λ row. get_or row y false) (get_or-set_other rows a x (set (get_or rows a []) b true) [] other) ∙ sym (or_nothing (get_or (get_or rows x []) y false)))
     ]
-
--- numbers that are not there are no others
-pub edge_kept : (edge : Bool) (a b x y n : ℕ) → x < n → n ≤ a → edge ≡ (edge || ((x == a) && (y == b)))
-edge_kept edge a b x y n there past = rw (ne_eqb x a (λ is. absurd (omega (arith, is, there, past)))) (sym (or_nothing edge))
 
 -- one flag of one row was set
 pub added : {V : Type 0} (flags : V → List Bool) (rows : List V) (now : List (List Bool)) (a b x y : ℕ) (old new : V) → map flags rows ≡ now

@@ -1,27 +1,17 @@
 -- Logs to which entries are added one after another: what they have by then, and that there is room for the next one.
-use Rattle.std.proofs.Common.{◌≡◌, ◌≢◌, ◌<◌, ◌≤◌, ◌+◌, ℕ, zero, suc, Bool, true, false, cond, List, [], ◌∷◌, ◌++◌, length, map, reverse, take, get_or, Option, Some, None, bytes_eq, refl, sym, ap, ◌∙◌, subst, arith, add-one}
-use Rattle.std.specs.Prelude.{◌==◌, ◌||◌, nat_lt, slice_get}
-use Rattle.std.specs.List.{list_any}
-use Rattle.std.specs.Option.{option_map_or}
-use Rattle.std.proofs.lemmas.Bool.{eqb-true, false≢true}
-use Rattle.std.proofs.lemmas.Bool.Decides.{nat_tests}
-use Rattle.std.proofs.lemmas.List.{get_or-map, get_or-take, length-map, length-reverse, length-take, reverse-append, reverse-reverse, take_more}
+use Rattle.gp_serial.proofs.Prelude.{◌≡◌, ◌≢◌, ◌<◌, ◌≤◌, ◌+◌, ℕ, zero, suc, Bool, true, false, cond, List, [], ◌∷◌, ◌++◌, length, map, reverse, take, get_or, Option, Some, None, refl, sym, ap, ◌∙◌, subst, arith, ◌==◌, ◌||◌, nat_lt, slice_get, list_any, option_map_or, eqb-true, false≢true, nat_tests, get_or-map, length-map, reverse-append, reverse-reverse, get_or_from_slice_get, slice_get_within, Table, Statement, Entry, Began, Created, Ran, statement_at, statement_count, transactions_in, AreDistinct, tables_in, entry_view, log_view}
+use Rattle.std.proofs.Common.{bytes_eq}
+use Rattle.std.proofs.lemmas.List.{get_or-take, length-reverse, length-take, take_more}
 use Rattle.std.proofs.lemmas.List.Sums.{position_or_len_is}
-use Rattle.std.proofs.lemmas.Option.{get_or_from_slice_get, slice_get_within}
 use Rattle.std.proofs.lemmas.Slice.Eq.{bytes_eq-Decides}
-use Rattle.gp_base.specs.declared.table.Table.{Table}
 use Rattle.gp_base.specs.CatalogForms.{HaveDifferentNames}
 use Rattle.gp_base.specs.Catalogs.{place_of, table_names}
 use Rattle.gp_grammar.specs.Syntax as y
-use Rattle.gp_algebra.specs.Statements.{Statement}
-use Rattle.gp_machine.specs.Entries.{Entry, Began, Committed, Created, Ran, Ended, statement_at, statement_count, statements_in, transactions_in}
-use Rattle.gp_machine.specs.SeenRows.{AreDistinct}
-use Rattle.gp_log.specs.LogFacts.{tables_in}
-use Rattle.gp_log.specs.Logs.{entry_view, log_view}
+use Rattle.gp_machine.specs.Entries.{Committed, Ended, statements_in}
 use Rattle.gp_log.specs.declared.entry.Entry as code
 use Rattle.gp_log.proofs.CountLemmas.{log_view-length}
 use Rattle.gp_log.proofs.EntryLemmas.{entries-counted, log-pushed}
-use Rattle.gp_serial.specs.SerialLogs.{begun, created, with_statement, with_statements, with_transaction, with_transactions}
+use Rattle.gp_serial.specs.SerialLogs.{begun, created, with_statements, with_transaction, with_transactions}
 use Rattle.gp_serial.proofs.SerialEntries.{kept, tables_from}
 
 -- ---- one more entry
@@ -41,9 +31,6 @@ created_next tables place table is =
 
 pub created_long : (own : List Table) → length (created own) ≡ length own
 created_long own = length-map (reverse own) (Created 0 0) ∙ length-reverse own
-
-pub created_few : (tables : List Table) (place : ℕ) (es : List code.Entry) → log_view es ≡ created (take place tables) → length es ≤ place
-created_few tables place es e = omega (arith, log_view-length es, ap length e, created_long (take place tables), length-take place tables)
 
 -- a table has another name than those before it
 pub new_name : (tables : List Table) (place : ℕ) (table : Table) → HaveDifferentNames tables → slice_get tables place ≡ Some table → place_of table.name (take place tables) ≡ None
@@ -83,9 +70,6 @@ new_name tables place table different is =
 
 -- ---- BEGINs
 
-pub begun_next : (n : ℕ) (es : List Entry) → begun (n + 1) es ≡ Began 0 (n + 1) (n + 1) true ∷ begun n es
-begun_next n es = subst (λ m. begun m es ≡ Began 0 m m true ∷ begun n es) (sym (add-one n)) refl
-
 begun_long : (n : ℕ) (es : List Entry) → length (begun n es) ≡ n + length es
 begun_long zero es = omega arith
 begun_long (suc n) es = omega (arith, begun_long n es)
@@ -96,9 +80,6 @@ begun_few n old new e = sym (log_view-length new) ∙ ap length e ∙ begun_long
 -- ---- statements
 
 module _ (log : List Entry) (t : ℕ) where
-  pub statement_next : (m : ℕ) (es : List Entry) → with_statements log t (m + 1) es ≡ with_statement log t (m + 1) (with_statements log t m es)
-  statement_next m es = subst (λ n. with_statements log t n es ≡ with_statement log t n (with_statements log t m es)) (sym (add-one m)) refl
-
   pub statements_long : (m : ℕ) (es : List Entry) → length (with_statements log t m es) ≤ m + length es
   statements_long zero es = omega arith
   statements_long (suc m) es = by (statements_long m es) (statement_at t (suc m) log)

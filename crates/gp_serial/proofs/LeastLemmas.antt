@@ -1,17 +1,11 @@
 -- The first cycle of all lists, by length and then in order, is the least one in its own words.
-use Rattle.std.proofs.Common.{◌≡◌, ◌≢◌, ◌+◌, ◌-◌, ◌<◌, ◌≤◌, ℕ, zero, suc, Bool, true, false, cond, List, [], ◌∷◌, ◌++◌, map, length, drop, take, get_or, length-append, Option, Some, None, refl, sym, ap, ◌∙◌, subst, arith, inl, inr}
-use Rattle.std.specs.Prelude.{◌==◌, ◌&&◌, ◌||◌, Contains, find, unwrap_or}
-use Rattle.std.specs.Cmp.Lexicographic.{slice_cmp}
-use Rattle.std.specs.List.{AllByRecursion, AllPairs, flat_map, list_any}
-use Rattle.std.specs.Option.{option_map, option_or}
-use Rattle.std.specs.Ordering.{is_le, nat_cmp, ordering_then}
-use Rattle.std.specs.declared.cmp.Ordering.TheVariants.{Less, Equal, Greater}
-use Rattle.std.proofs.lemmas.Bool.{and_parts, cases_eq, cases_lt, eq-eqb, eqb-true, false≢true, le-ltb, lt-ltb, ne_eqb}
-use Rattle.std.proofs.lemmas.List.{drop_more, get_or-drop, get_or_append_left, length-drop, length-take-le, take-append-drop}
-use Rattle.std.proofs.lemmas.List.Folds.{find-append, list_any_at}
-use Rattle.std.proofs.lemmas.Option.{none-some, same_Some}
-use Rattle.gp_base.proofs.SmallLemmas.{each_append, each_flat_map, each_map, none_parts, some_none}
-use Rattle.gp_machine.specs.Precedence.{numbers}
+use Rattle.gp_serial.proofs.Prelude.{◌≡◌, ◌≢◌, ◌+◌, ◌-◌, ◌<◌, ◌≤◌, ℕ, zero, suc, Bool, true, false, cond, List, [], ◌∷◌, ◌++◌, map, length, drop, take, get_or, length-append, Option, Some, None, refl, sym, ap, ◌∙◌, subst, arith, inl, inr, ◌==◌, ◌&&◌, ◌||◌, Contains, find, unwrap_or, slice_cmp, AllByRecursion, flat_map, list_any, option_map, option_or, ordering_then, Less, Equal, Greater, and_parts, cases_eq, cases_lt, eq-eqb, eqb-true, false≢true, ne_eqb, drop_more, get_or_append_left, find-append, none-some, same_Some, each_append, each_map, none_parts, some_none, numbers}
+use Rattle.std.specs.List.{AllPairs}
+use Rattle.std.specs.Ordering.{is_le, nat_cmp}
+use Rattle.std.proofs.lemmas.Bool.{le-ltb, lt-ltb}
+use Rattle.std.proofs.lemmas.List.{get_or-drop, length-drop, length-take-le, take-append-drop}
+use Rattle.std.proofs.lemmas.List.Folds.{list_any_at}
+use Rattle.gp_base.proofs.SmallLemmas.{each_flat_map}
 use Rattle.gp_serial.specs.Graphs.{closes, is_cycle, least_cycle, lists_of}
 use Rattle.gp_serial.specs.LeastCycles.{IsCycleOf, IsLeastCycle}
 use Rattle.gp_serial.proofs.CycleLemmas.{find_map, next_numbers, numbers_next}
@@ -41,10 +35,6 @@ head_least a b others more le =
 
 abbrev is_in : List ℕ → ℕ → Bool
 is_in list t = list_any (λ other. other == t) list
-
-or_right : (a b : Bool) → b ≡ true → (a || b) ≡ true
-or_right true b e = refl
-or_right false b e = e
 
 above_in : (x t : ℕ) (xs : List ℕ) → AllByRecursion (λ y. x < y) xs → is_in xs t ≡ true → x < t
 above_in x t [] above there = absurd (false≢true there)

@@ -1,8 +1,10 @@
+pub mod Prelude
 pub mod AgreeLemmas
 pub mod Anys
 pub mod ComparableLogs
 pub mod ComparingLemmas
 pub mod CycleLemmas
+pub mod FindingLemmas
 pub mod FittingReplays
 pub mod FittingStatements
 pub mod GraphLemmas
@@ -25,4 +27,5 @@ pub mod SerialReplays
 pub mod SerializingLemmas
 pub mod SharedStatements
 pub mod StepLemmas
+pub mod StoppingLemmas
 pub mod WholeOrders

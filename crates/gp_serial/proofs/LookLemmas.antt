@@ -1,18 +1,13 @@
 -- The conditions of checked statements are simple; the looks of the items that remain of a FROM.
-use Rattle.std.proofs.Common.{◌≡◌, ◌+◌, ◌<◌, ℕ, true, List, [], ◌∷◌, ◌++◌, append_assoc, drop, get_or, map, length, Option, Some, None, refl, sym, ap, ◌∙◌}
-use Rattle.std.specs.Prelude.{◌&&◌, ◌==◌, filter, nat_lt}
-use Rattle.std.specs.List.{list_all}
-use Rattle.std.specs.Option.{option_map}
-use Rattle.std.proofs.lemmas.Bool.{and_parts}
-use Rattle.std.proofs.lemmas.List.{drop_more, map_push}
-use Rattle.gp_base.specs.declared.table.Table.{Table}
+use Rattle.gp_serial.proofs.Prelude.{◌≡◌, ◌+◌, ◌<◌, ℕ, true, List, [], ◌∷◌, ◌++◌, drop, get_or, map, length, Option, Some, None, refl, sym, ap, ◌∙◌, ◌&&◌, ◌==◌, filter, nat_lt, list_all, option_map, and_parts, drop_more, Table, statement_fits, width_of}
+use Rattle.std.proofs.Common.{append_assoc}
+use Rattle.std.proofs.lemmas.List.{map_push}
 use Rattle.gp_expr.specs.ExpressionForms.{cond_is_simple}
 use Rattle.gp_expr.specs.Expressions as e
 use Rattle.gp_expr.specs.Views.{cond_view}
 use Rattle.gp_expr.specs.declared.expr.Cond.{Cond}
-use Rattle.gp_algebra.specs.Fitting.{branch_fits, expr_fits, is_countable, is_there, joined_width, optional_cond_fits, select_width, statement_fits}
+use Rattle.gp_algebra.specs.Fitting.{branch_fits, expr_fits, is_countable, is_there, joined_width, optional_cond_fits, select_width}
 use Rattle.gp_algebra.specs.Statements as statement
-use Rattle.gp_algebra.specs.Statements.{width_of}
 use Rattle.gp_algebra.specs.Views.{branch_view}
 use Rattle.gp_algebra.specs.declared.statement.Branch.{Branch}
 use Rattle.gp_machine.specs.Looks as m

@@ -1,16 +1,7 @@
 -- An order has numbers that are there, each once; it has all of them if it is as long.
-use Rattle.std.proofs.Common.{◌≡◌, ℕ, zero, suc, Bool, true, false, cond, List, [], ◌∷◌, ◌++◌, length, length-append, Option, Some, None, refl, sym, ap, ◌∙◌, subst, arith}
-use Rattle.std.specs.Prelude.{◌==◌, ◌||◌, filter, find, not}
-use Rattle.std.specs.List.{list_any}
-use Rattle.std.specs.List.Sorted.{IsPermutation}
-use Rattle.std.specs.Option.{option_map_or}
-use Rattle.std.proofs.lemmas.Bool.{eqb-true, false≢true}
-use Rattle.std.proofs.lemmas.List.{append-nil, append_assoc}
-use Rattle.std.proofs.lemmas.Option.{same_Some}
-use Rattle.gp_base.proofs.Bags.{SameBag, first, swapped, through, same, as_long}
+use Rattle.gp_serial.proofs.Prelude.{◌≡◌, ℕ, zero, suc, Bool, true, false, cond, List, [], ◌∷◌, ◌++◌, length, length-append, Option, Some, None, refl, sym, ap, ◌∙◌, subst, arith, ◌==◌, ◌||◌, filter, find, not, list_any, IsPermutation, option_map_or, eqb-true, false≢true, append-nil, append_assoc, same_Some, as_long, eq_itself, AreDistinct}
+use Rattle.gp_base.proofs.Bags.{SameBag, first, swapped, through, same}
 use Rattle.gp_base.proofs.Permutations.{permuted}
-use Rattle.gp_base.proofs.SmallLemmas.{eq_itself}
-use Rattle.gp_machine.specs.SeenRows.{AreDistinct}
 use Rattle.gp_serial.specs.Graphs.{is_free, order_of, ordered}
 
 -- no number occurs twice

@@ -1,22 +1,13 @@
 -- The relation that the code builds is that of the history machine.
-use Rattle.std.proofs.Common.{◌≡◌, ◌≢◌, ◌<◌, ◌≤◌, ◌+◌, ℕ, zero, suc, Bool, true, false, cond, List, [], ◌∷◌, ◌++◌, map, Some, None, refl, sym, ap, ◌∙◌, subst, arith, ⊎_elim}
-use Rattle.std.specs.Prelude.{◌==◌, ◌&&◌, ◌||◌, filter, nat_le, nat_lt, not, slice_get}
-use Rattle.std.specs.List.{flat_map, list_any}
-use Rattle.std.specs.Option.{option_map_or}
-use Rattle.std.proofs.lemmas.Bool.{and_parts, cases_lt, eqb-true, false≢true}
-use Rattle.std.proofs.lemmas.Bool.Decides.{nat_tests}
-use Rattle.gp_base.specs.declared.table.Table.{Table}
+use Rattle.gp_serial.proofs.Prelude.{◌≡◌, ◌≢◌, ◌<◌, ◌≤◌, ◌+◌, ℕ, zero, suc, Bool, true, false, cond, List, [], ◌∷◌, ◌++◌, map, Some, None, refl, sym, ap, ◌∙◌, subst, arith, ⊎_elim, ◌==◌, ◌&&◌, ◌||◌, filter, nat_le, nat_lt, not, slice_get, flat_map, list_any, option_map_or, and_parts, cases_lt, eqb-true, false≢true, nat_tests, Table, eq_itself, eq_not, Entry, committer_of, statement_at, statement_count, statement_version, Look, looks, Reason, ReadAfter, ReadBefore, Wrote, changes_by, is_before, meets, numbers, read_after, read_before, same_row, wrote_before, RowChange}
 use Rattle.gp_base.specs.Identities.{same_identity}
-use Rattle.gp_base.proofs.SmallLemmas.{eq_itself, eq_not}
 use Rattle.gp_versions.proofs.SameLemmas.{same-sym}
-use Rattle.gp_machine.specs.Entries.{Entry, committer_of, statement_at, statement_count, statement_version}
-use Rattle.gp_machine.specs.Looks.{Look, looks}
-use Rattle.gp_machine.specs.Precedence.{Reason, ReadAfter, ReadBefore, Wrote, changes_by, is_before, looked_at, meets, numbers, read_after, read_before, same_row, wrote_before}
-use Rattle.gp_machine.specs.RowChanges.{RowChange}
+use Rattle.gp_machine.specs.Precedence.{looked_at}
 use Rattle.gp_serial.specs.declared.changes.RowChange as code
 use Rattle.gp_serial.specs.Changes.{AreMade, change_view}
 use Rattle.gp_serial.specs.Preceding.{AreGrouped, all_links, first_links, links, one_link, row_links, statement_links, transaction_links, write_links}
-use Rattle.gp_serial.proofs.Anys.{and_both, any_elim, any_filter, any_intro, by_both, either, mapped_elim, mapped_intro, numbers_any, or_left, or_right, some_append, some_filter, some_flat_map, some_map, there_is}
+use Rattle.gp_serial.proofs.Anys.{and_both, any_elim, any_filter, any_intro, by_both, either, mapped_elim, numbers_any, or_left, or_right, some_append, some_filter, some_flat_map, some_map, there_is}
+use Rattle.gp_versions.proofs.PlaceLemmas.{mapped-at}
 
 -- ---- tests of numbers
 
@@ -130,7 +121,7 @@ module _ (tables : List Table) (entries : List Entry) (changes : List code.RowCh
       → list_any (λ k. list_any (λ change. (committer_of change.version entries == writer) && (test k change && list_any (meets change) (looks_at reader k))) own) (numbers (statement_count reader entries)) ≡ true
   reads_intro test reader writer k i j l look change at_k at_l at_j is own_test met =
       any_intro _ (numbers (statement_count reader entries)) i k at_k
-      (any_intro _ own j (change_view change) (mapped_intro change_view changes j change at_j)
+      (any_intro _ own j (change_view change) (mapped-at change_view changes j change at_j)
       (and_both (committer_of change.version entries == writer) _ (ap (λ u. u == writer) (sym (made_at changes made j change at_j) ∙ is) ∙ eq_itself writer)
       (and_both (test k (change_view change)) _ own_test (any_intro (meets (change_view change)) (looks_at reader k) l look at_l met))))
 
@@ -249,7 +240,7 @@ row_intro (first ∷ changes) grouped a b zero (suc j) change other l at_i at_j 
     by m between lm at true e = ap (λ c. same_row (change_view first) (change_view c)) (is between other (sym at ∙ ap (slice_get changes) (eqb-true m j e) ∙ at_j)) ∙ whole
     by m between lm at false e =
         grouped zero (suc m) (suc j) (change_view first) (change_view between) (change_view other) (omega arith) (earlier m lm e) refl
-        (mapped_intro change_view changes m between at) (mapped_intro change_view changes j other at_j) whole
+        (mapped-at change_view changes m between at) (mapped-at change_view changes j other at_j) whole
       where
         earlier : (m : ℕ) → m ≤ j → (m == j) ≡ false → suc m < suc j
         earlier m lm e = grind (arith, nat_tests)
@@ -300,9 +291,9 @@ module _ (tables : List Table) (entries : List Entry) (changes : List code.RowCh
       → same_row (change_view change) (change_view other) ≡ true → nat_lt change.version other.version ≡ true → wrote_first ≡ true
   wrote_intro i j change other at_i at_j is to same later =
       wrote tables entries changes made a b
-      ∙ any_intro _ shown i (change_view change) (mapped_intro change_view changes i change at_i)
+      ∙ any_intro _ shown i (change_view change) (mapped-at change_view changes i change at_i)
       (and_both (committer_of change.version entries == a) _ (ap (λ u. u == a) (sym (made_at tables entries changes made changes made i change at_i) ∙ is) ∙ eq_itself a)
-      (any_intro _ shown j (change_view other) (mapped_intro change_view changes j other at_j)
+      (any_intro _ shown j (change_view other) (mapped-at change_view changes j other at_j)
       (and_both (committer_of other.version entries == b) _ (ap (λ u. u == b) (sym (made_at tables entries changes made changes made j other at_j) ∙ to) ∙ eq_itself b)
       (and_both (same_row (change_view change) (change_view other)) (nat_lt change.version other.version) same later))))
 

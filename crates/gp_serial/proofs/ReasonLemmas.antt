@@ -1,21 +1,12 @@
 -- The first of all reasons is the first that the code finds.
-use Rattle.std.proofs.Common.{◌≡◌, ◌≢◌, ◌<◌, ◌≤◌, ◌+◌, ℕ, zero, suc, Bool, true, false, cond, List, [], ◌∷◌, ◌++◌, length, map, drop, get_or, Option, Some, None, refl, sym, ap, ◌∙◌, subst, arith, add-one, ⊎_elim}
-use Rattle.std.specs.Prelude.{◌==◌, ◌&&◌, filter, nat_lt, slice_get}
-use Rattle.std.specs.List.{flat_map, list_any}
-use Rattle.std.specs.Option.{option_map, option_map_or, option_or}
-use Rattle.std.proofs.lemmas.Bool.{cases_lt}
+use Rattle.gp_serial.proofs.Prelude.{◌≡◌, ◌≢◌, ◌<◌, ◌≤◌, ◌+◌, ℕ, zero, suc, Bool, true, false, cond, List, [], ◌∷◌, ◌++◌, map, Option, Some, None, refl, sym, ap, ◌∙◌, subst, arith, add-one, ⊎_elim, ◌==◌, ◌&&◌, filter, nat_lt, slice_get, flat_map, list_any, option_map, option_map_or, option_or, cases_lt, append-nil, append_assoc, Table, eq_not, map-map, Entry, committer_of, statement_at, statement_count, statement_version, Look, looks, Reason, ReadAfter, ReadBefore, Wrote, changes_by, meets, numbers, read_after, read_before, reasons, same_row, wrote_before, RowChange}
 use Rattle.std.proofs.lemmas.Grind.{flat_map-append}
-use Rattle.std.proofs.lemmas.List.{append-nil, append_assoc, drop_more}
-use Rattle.gp_base.specs.declared.table.Table.{Table}
-use Rattle.gp_base.proofs.SmallLemmas.{eq_not, filter-map, flat_map_agree, map-flat_map, map-map, map_agree}
-use Rattle.gp_machine.specs.Entries.{Entry, committer_of, statement_at, statement_count, statement_version}
-use Rattle.gp_machine.specs.Looks.{Look, looks}
+use Rattle.gp_base.proofs.SmallLemmas.{filter-map, flat_map_agree, map-flat_map, map_agree}
 use Rattle.gp_machine.specs.Precedence as m
-use Rattle.gp_machine.specs.Precedence.{Reason, ReadAfter, ReadBefore, Wrote, changes_by, meets, numbers, read_after, read_before, reasons, same_row, wrote_before}
-use Rattle.gp_machine.specs.RowChanges.{RowChange}
 use Rattle.gp_serial.specs.declared.changes.RowChange as code
 use Rattle.gp_serial.specs.Changes.{AreMade, change_view}
 use Rattle.gp_serial.specs.Reasons.{first_looked, first_of, first_reading, first_write, is_looked, is_on_side, is_rewrite, looked, paired, readings, rewrites}
+use Rattle.gp_machine.proofs.Distinct.{filter-filter}
 
 -- ---- the first of a list
 
@@ -34,25 +25,6 @@ none_first (x ∷ xs) e = absurd (filled x e)
     filled : {A : Type 0} (x : A) → Some x ≡ None → ⊥
     filled x e = cc
 
--- of those that pass a test
-pub passes_first : {A : Type 0} (p : A → Bool) (xs : List A) (i : ℕ) (x : A) → i < length xs → p (get_or xs i x) ≡ true → first_of (filter p (drop i xs)) ≡ Some (get_or xs i x)
-passes_first p xs i x within own =
-    ap (λ rest. first_of (filter p rest)) (drop_more xs i x within)
-    ∙ ap (λ b. first_of (cond b (get_or xs i x ∷ filter p (drop (i + 1) xs)) (filter p (drop (i + 1) xs)))) own
-
-pub passes_later : {A : Type 0} (p : A → Bool) (xs : List A) (i : ℕ) (x : A) → i < length xs → p (get_or xs i x) ≡ false → first_of (filter p (drop i xs)) ≡ first_of (filter p (drop (i + 1) xs))
-passes_later p xs i x within other =
-    ap (λ rest. first_of (filter p rest)) (drop_more xs i x within)
-    ∙ ap (λ b. first_of (cond b (get_or xs i x ∷ filter p (drop (i + 1) xs)) (filter p (drop (i + 1) xs)))) other
-
-pub filter_filter : {A : Type 0} (p q : A → Bool) (xs : List A) → filter p (filter q xs) ≡ filter (λ x. q x && p x) xs
-filter_filter p q [] = refl
-filter_filter p q (x ∷ xs) = by (q x) (filter_filter p q xs)
-  where
-    by : (b : Bool) → filter p (filter q xs) ≡ filter (λ x. q x && p x) xs → filter p (cond b (x ∷ filter q xs) (filter q xs)) ≡ cond (b && p x) (x ∷ filter (λ x. q x && p x) xs) (filter (λ x. q x && p x) xs)
-    by true rest = λ i. cond (p x) (x ∷ rest i) (rest i)
-    by false rest = rest
-
 none_pass : {A : Type 0} (xs : List A) → filter (λ x. false) xs ≡ []
 none_pass [] = refl
 none_pass (x ∷ xs) = none_pass xs
@@ -67,9 +39,9 @@ module _ (tables : List Table) (entries : List Entry) where
   pub looked_is : (reader k writer : ℕ) (earlier : Bool) (changes : List code.RowChange) → AreMade entries changes
       → looked tables entries reader k writer (map change_view changes) earlier ≡ map change_view (filter (is_looked writer (statement_version reader k entries) earlier (looks_at reader k)) changes)
   looked_is reader k writer earlier changes made =
-      filter_filter (λ shown. list_any (meets shown) (looks_at reader k)) (λ (shown : RowChange). is_on_side (statement_version reader k entries) shown earlier)
+      filter-filter (λ shown. list_any (meets shown) (looks_at reader k)) (λ (shown : RowChange). is_on_side (statement_version reader k entries) shown earlier)
       (changes_by tables entries (map change_view changes) writer)
-      ∙ filter_filter (λ shown. is_on_side (statement_version reader k entries) shown earlier && list_any (meets shown) (looks_at reader k))
+      ∙ filter-filter (λ shown. is_on_side (statement_version reader k entries) shown earlier && list_any (meets shown) (looks_at reader k))
       (λ (shown : RowChange). committer_of shown.version entries == writer) (map change_view changes)
       ∙ filter-map (λ shown. (committer_of shown.version entries == writer) && (is_on_side (statement_version reader k entries) shown earlier && list_any (meets shown) (looks_at reader k))) change_view changes
       ∙ ap (map change_view) (agree changes made)
@@ -168,7 +140,7 @@ module _ (tables : List Table) (entries : List Entry) where
 
     later_is : (change : code.RowChange) → later (change_view change) ≡ map change_view (rewrites change b all)
     later_is change =
-        filter_filter (λ (other : RowChange). same_row (change_view change) other && nat_lt change.version other.version) (λ (other : RowChange). committer_of other.version entries == b) shown
+        filter-filter (λ (other : RowChange). same_row (change_view change) other && nat_lt change.version other.version) (λ (other : RowChange). committer_of other.version entries == b) shown
         ∙ filter-map (λ (other : RowChange). (committer_of other.version entries == b) && (same_row (change_view change) other && nat_lt change.version other.version)) change_view all
         ∙ ap (map change_view) (agree all made_all)
       where

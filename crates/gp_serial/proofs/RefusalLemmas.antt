@@ -1,16 +1,5 @@
 -- Whether transactions run whole, by what their last statements show.
-use Rattle.std.proofs.Common.{Global, Vec, ◌≡◌, ◌<◌, ◌≤◌, ◌+◌, ℕ, zero, suc, List, Option, Some, None, Ok, Err, sym, ap, ◌∙◌, subst, arith, add-one, ⊎_elim}
-use Rattle.std.specs.Option.{option_map, option_or}
-use Rattle.std.proofs.lemmas.Bool.{cases_lt}
-use Rattle.gp_base.specs.declared.cell.Cell.{Cell}
-use Rattle.gp_base.specs.declared.refusal.Refusal.{Refusal}
-use Rattle.gp_base.specs.Annotated.{unannotated}
-use Rattle.gp_log.specs.Parameters.{parameters}
-use Rattle.gp_machine.specs.Entries.{Entry, committer_of, log_of, statement_count}
-use Rattle.gp_machine.specs.HistorySpans.{as_of}
-use Rattle.gp_machine.specs.Points.{run_stop}
-use Rattle.gp_machine.specs.Questions.{stop_refusal}
-use Rattle.gp_versions.specs.declared.span.Span.{Span}
+use Rattle.gp_serial.proofs.Prelude.{◌≡◌, ◌<◌, ◌≤◌, ◌+◌, ℕ, zero, suc, List, Option, Some, None, Err, sym, ap, ◌∙◌, subst, arith, add-one, ⊎_elim, option_map, option_or, cases_lt, Refusal, unannotated, parameters, Entry, committer_of, log_of, statement_count, as_of, run_stop, stop_refusal, Span}
 use Rattle.gp_serial.specs.declared.error.SerialStop.{SerialStop}
 use Rattle.gp_serial.specs.declared.error.SerialStop.TheVariants.{NoMemory, Refused}
 use Rattle.gp_serial.specs.Comparing.{ChecksRun, ChecksRuns}
@@ -19,11 +8,6 @@ use Rattle.gp_serial.specs.Serializing.{runs_refusal}
 
 module _ (entries : List Entry) (spans : ℕ → List Span) where
   -- ---- one transaction
-
-  pub runs_whole : (t k : ℕ) (found : Option (Vec (List Cell) Global)) → k ≡ statement_count t entries → 0 < k → IsShown entries spans t k (Ok found)
-      → run_stop unannotated parameters (log_of entries) t (statement_count t entries) (as_of unannotated spans) ≡ None
-  runs_whole t zero found is first shown = absurd (omega (arith, first))
-  runs_whole t (suc k) found is first shown = subst (λ n. run_stop unannotated parameters (log_of entries) t n (as_of unannotated spans) ≡ None) is shown.0
 
   pub is_refused : (t k : ℕ) (stop : SerialStop) → k ≡ statement_count t entries → 0 < k → IsShown entries spans t k (Err stop) → ChecksRun entries spans t (Err stop)
   is_refused t k NoMemory is first shown = tt

@@ -1,11 +1,7 @@
 -- Lists of rows of different lengths differ.
-use Rattle.std.proofs.Common.{◌≡◌, ◌≢◌, suc, false, length, List, [], ◌∷◌, refl, ap}
-use Rattle.std.specs.Cmp.Lexicographic.{slice_cmp}
-use Rattle.std.specs.Ordering.{is_eq, ordering_then}
+use Rattle.gp_serial.proofs.Prelude.{◌≡◌, ◌≢◌, suc, false, length, List, [], ◌∷◌, refl, ap, slice_cmp, ordering_then, Less, Equal, Greater, Cell, row_cmp}
+use Rattle.std.specs.Ordering.{is_eq}
 use Rattle.std.specs.declared.cmp.Ordering.{Ordering}
-use Rattle.std.specs.declared.cmp.Ordering.TheVariants.{Less, Equal, Greater}
-use Rattle.gp_base.specs.declared.cell.Cell.{Cell}
-use Rattle.gp_base.specs.Order.{row_cmp}
 
 pub lengths_differ : (xs ys : List (List Cell)) → length xs ≢ length ys → is_eq (slice_cmp row_cmp xs ys) ≡ false
 lengths_differ [] [] other = absurd (other refl)

@@ -1,42 +1,21 @@
 -- What a statement does over row versions, by what one sees and looks at of it.
-use Rattle.std.proofs.Common.{Global, Vec, ◌≡◌, ◌≢◌, ◌≤◌, ◌+◌, ◌-◌, ℕ, zero, suc, Bool, true, false, cond, List, [], ◌∷◌, ◌++◌, length, map, take, Option, Some, None, Result, Ok, Err, refl, sym, ap, ◌∙◌, subst, arith, length-append, inl, inr, ⊎_elim}
-use Rattle.std.specs.Prelude.{nat_le, nat_lt, filter, slice_get, if◌then◌else◌}
-use Rattle.std.specs.List.Sorted.{IsPermutation}
-use Rattle.std.specs.Option.{option_map, option_map_or, option_or}
-use Rattle.std.proofs.lemmas.Bool.{cases_lt, false≢true}
-use Rattle.std.proofs.lemmas.Bool.Decides.{nat_tests}
+use Rattle.gp_serial.proofs.Prelude.{Global, Vec, ◌≡◌, ◌≢◌, ◌≤◌, ◌+◌, ◌-◌, ℕ, zero, suc, Bool, true, false, cond, List, [], ◌∷◌, ◌++◌, length, map, take, Option, Some, None, Result, Ok, Err, refl, sym, ap, ◌∙◌, subst, arith, length-append, inl, inr, ⊎_elim, nat_le, nat_lt, filter, slice_get, if◌then◌else◌, IsPermutation, option_map, option_map_or, option_or, cases_lt, false≢true, nat_tests, Cell, Refusal, Table, Annotated, Database, Environment, unannotated, row_cmp, sorted_by, none_parts, Statement, no-statement, statements_fit, parameters, Entry, log_of, statement_at, statement_count, is_over_answer, as_of, RunStop, run_stop, is_known, stop_refusal, run_before, stepped, row_cells, shown, FitsIfSome, logged_fits, Span}
 use Rattle.std.proofs.lemmas.List.Sorted.{IsPermutation-trans}
-use Rattle.gp_base.specs.declared.cell.Cell.{Cell}
 use Rattle.gp_base.specs.declared.cell.Cell.TheVariants as cell
-use Rattle.gp_base.specs.declared.refusal.Refusal.{Refusal}
 use Rattle.gp_base.specs.declared.refusal.Refusal.TheVariants.{E20, E22, E27}
-use Rattle.gp_base.specs.declared.table.Table.{Table}
-use Rattle.gp_base.specs.Annotated.{Annotated, Database, Environment, unannotated}
-use Rattle.gp_base.specs.Order.{row_cmp, sorted_by}
 use Rattle.gp_base.proofs.OrderLemmas.{rows_permuted, rows_sorted, sorted_rows_unique}
-use Rattle.gp_base.proofs.SmallLemmas.{none_parts}
 use Rattle.gp_expr.specs.Values.{passes}
 use Rattle.gp_algebra.specs.Answers.{Element, answer, cells_of}
 use Rattle.gp_algebra.specs.Fitting.{select_fits}
-use Rattle.gp_algebra.specs.Statements.{Select, Statement, insert, insert_select, update, delete, read}
+use Rattle.gp_algebra.specs.Statements.{Select, insert, insert_select, update, delete, read}
 use Rattle.gp_compose.specs.Seen.{changed_rows, is_changed_by, writes}
-use Rattle.gp_log.proofs.NumberingLemmas.{no-statement}
-use Rattle.gp_log.specs.LogFitting.{statements_fit}
-use Rattle.gp_log.specs.Parameters.{parameters}
-use Rattle.gp_machine.specs.Entries.{Entry, log_of, statement_at, statement_count}
-use Rattle.gp_machine.specs.Event.{is_over_answer}
-use Rattle.gp_machine.specs.HistorySpans.{as_of}
-use Rattle.gp_machine.specs.Points.{OverNodes, OverRows, RunStop, run_stop}
-use Rattle.gp_machine.specs.Questions.{given, is_known, stop_refusal}
-use Rattle.gp_machine.specs.Runs.{run_before, stepped}
-use Rattle.gp_machine.specs.SerialRuns.{row_cells, shown}
-use Rattle.gp_reenact.proofs.HeldLemmas.{FitsIfSome, logged_fits}
+use Rattle.gp_machine.specs.Points.{OverNodes, OverRows}
+use Rattle.gp_machine.specs.Questions.{given}
 use Rattle.gp_reenact.specs.Looking.{saw_answer}
 use Rattle.gp_reenact.specs.LookingForms.{Looks, looked_answer, looked_rows, system_row}
 use Rattle.gp_reenact.specs.Reenacting.{Reenacts}
 use Rattle.gp_base.specs.declared.stop.Stop.{Stop}
 use Rattle.gp_base.specs.declared.stop.Stop.TheVariants as reenact
-use Rattle.gp_versions.specs.declared.span.Span.{Span}
 use Rattle.gp_serial.specs.declared.error.SerialStop.{SerialStop}
 use Rattle.gp_serial.specs.declared.error.SerialStop.TheVariants.{Refused}
 use Rattle.gp_serial.specs.Running.{IsShown, IsStopOf, IsToldOf, IsUnanswered, changed_of, id_in, identity_of, unmarked}
@@ -86,7 +65,7 @@ changed_is t k statement (row ∷ rows) =
     by true rest = λ i. unmarked_is row.cells (cell.Id row.identity) (cell.Mark row.mark) i ∷ rest i
     by false rest = rest
 
-all_kept : {A : Type 0} (xs : List A) → filter (λ x. true) xs ≡ xs
+pub all_kept : {A : Type 0} (xs : List A) → filter (λ x. true) xs ≡ xs
 all_kept [] = refl
 all_kept (x ∷ xs) = ap (λ others. x ∷ others) (all_kept xs)
 

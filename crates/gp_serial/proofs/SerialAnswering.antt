@@ -1,17 +1,11 @@
 -- The answer, of what the functions give.
-use Rattle.std.proofs.Common.{◌≡◌, ◌<◌, ◌≤◌, ℕ, Bool, List, length, None, Result, Ok, Err, refl, sym, ap, ◌∙◌, subst, arith}
-use Rattle.std.specs.List.{AllByRecursion}
-use Rattle.gp_log.specs.Contents.{commits, entries, tables}
-use Rattle.gp_log.specs.Logs.{Logged}
-use Rattle.gp_log.specs.Parameters.{parameters}
-use Rattle.gp_machine.specs.RowChanges.{RowChange, tables_changes}
-use Rattle.gp_reenact.specs.Reenacting.{spans_of}
-use Rattle.gp_versions.specs.Spans.{Versions}
+use Rattle.gp_serial.proofs.Prelude.{◌≡◌, ◌<◌, ◌≤◌, ℕ, Bool, List, length, None, Result, Ok, Err, refl, sym, ap, ◌∙◌, subst, arith, AllByRecursion, entries, tables, Logged, parameters, RowChange, spans_of, Versions}
+use Rattle.gp_log.specs.Contents.{commits}
+use Rattle.gp_machine.specs.RowChanges.{tables_changes}
 use Rattle.gp_serial.specs.declared.error.SerialStop.{SerialStop}
 use Rattle.gp_serial.specs.declared.error.SerialStop.TheVariants.{NoMemory, Refused}
 use Rattle.gp_serial.specs.declared.serializing.Serial.{Serial}
 use Rattle.gp_serial.specs.Changes.{tables_of}
-use Rattle.gp_serial.specs.Comparing.{ChecksRuns}
 use Rattle.gp_serial.specs.Graphs.{least_cycle, order_of}
 use Rattle.gp_serial.specs.Preceding.{IsMadeBy, IsPrecedence}
 use Rattle.gp_serial.specs.SerialLogs.{AreFew}
@@ -19,11 +13,6 @@ use Rattle.gp_serial.specs.SerialViews.{IsSerialOf, IsSerializable, IsTried, Run
 use Rattle.gp_serial.specs.Serializing as s
 use Rattle.gp_serial.specs.Serializing.{by_number, committers, runs_refusal, serial_of}
 use Rattle.gp_serial.proofs.SerializingLemmas.{made_by, order_few, order_whole, short_answer, whole_answer}
-
-pub runs_refused : (log : Logged) (versions : List Versions) (answer : s.Serial) (stop : SerialStop) → ChecksRuns (entries log) (spans_of versions) (commits log) (Err stop)
-    → IsSerialOf (entries log) versions answer (Err stop)
-runs_refused log versions answer NoMemory e = tt
-runs_refused log versions answer (Refused refusal) e = e
 
 module _ (log : Logged) (versions : List Versions) (rules : IsSerializable log versions) (none : runs_refusal parameters (entries log) (spans_of versions) (commits log) ≡ None)
     (all : List ℕ) (all_is : all ≡ committers (entries log)) where

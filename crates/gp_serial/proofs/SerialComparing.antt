@@ -1,37 +1,14 @@
 -- Over the row versions that the replay of the serial log makes, transactions do what they do one after another.
-use Rattle.std.proofs.Common.{◌≡◌, ◌<◌, ◌≤◌, ℕ, zero, suc, true, List, [], ◌∷◌, length, map, reverse, get_or, None, refl, sym, ap, ◌∙◌, subst, arith}
-use Rattle.std.specs.Prelude.{◌&&◌, ◌||◌, not, nat_le, nat_lt, filter, is_none, Contains}
-use Rattle.std.specs.List.{AllByRecursion, list_all}
-use Rattle.std.specs.Option.{option_map_or}
-use Rattle.std.proofs.lemmas.Grind.{get_or_default_zero}
-use Rattle.gp_base.specs.declared.table.Table.{Table}
-use Rattle.gp_base.specs.Annotated.{Database, Environment, unannotated}
-use Rattle.gp_base.specs.Order.{row_cmp, sorted_by}
-use Rattle.gp_base.proofs.SmallLemmas.{map-map}
-use Rattle.gp_algebra.specs.Statements.{width_of}
-use Rattle.gp_versions.specs.Spans.{Versions, holds_at, row_of, spans_at}
-use Rattle.gp_versions.specs.declared.span.Span.{Span}
-use Rattle.gp_machine.specs.Entries.{Entry, Log, log_of, statement_at, statement_count, transactions_in, versions_in}
-use Rattle.gp_machine.specs.Event.{is_over_answer}
+use Rattle.gp_serial.proofs.Prelude.{◌≡◌, ◌<◌, ◌≤◌, ℕ, zero, suc, true, List, [], ◌∷◌, length, map, reverse, get_or, None, refl, sym, ap, ◌∙◌, subst, arith, ◌&&◌, ◌||◌, not, nat_le, nat_lt, filter, is_none, Contains, AllByRecursion, list_all, option_map_or, get_or_default_zero, Table, Database, Environment, unannotated, row_cmp, sorted_by, map-map, width_of, Versions, Span, Entry, Log, log_of, statement_at, statement_count, transactions_in, versions_in, is_over_answer, as_of, run_stop, is_known, Replay, replay_stop, replayed, run_before, place_in, row_cells, serial_log, shown, tables, tables_in, SpanFits, SpansFit, statements_fit, parameters, spans_of, IsMade, IsReplayable}
+use Rattle.gp_versions.specs.Spans.{holds_at, row_of, spans_at}
 use Rattle.gp_machine.specs.Histories.{IsHistory}
-use Rattle.gp_machine.specs.HistorySpans.{as_of}
-use Rattle.gp_machine.specs.Points.{run_stop}
-use Rattle.gp_machine.specs.Questions.{is_known}
-use Rattle.gp_machine.specs.Replaying.{Replay, replay_stop, replayed}
-use Rattle.gp_machine.specs.Runs.{run_before}
 use Rattle.gp_machine.specs.SerialRuns as m
-use Rattle.gp_machine.specs.SerialRuns.{are_same, place_in, row_cells, serial_log, serial_replay, shown}
+use Rattle.gp_machine.specs.SerialRuns.{are_same, serial_replay}
 use Rattle.gp_machine.proofs.ReplayLemmas.{history_made, same_log}
 use Rattle.gp_machine.proofs.ReplayedLemmas.{made_unstopped}
 use Rattle.gp_machine.proofs.RunLemmas.{before_agree, stop_agree}
 use Rattle.gp_machine.proofs.SpanLaws.{plain_spans_rows}
-use Rattle.gp_log.specs.Contents.{tables}
-use Rattle.gp_log.specs.LogFacts.{tables_in}
-use Rattle.gp_log.specs.LogFitting.{SpanFits, SpansFit, statements_fit}
-use Rattle.gp_log.specs.Parameters.{parameters}
 use Rattle.gp_log.proofs.KeptSessions.{commits_in_order}
-use Rattle.gp_reenact.specs.Reenacting.{spans_of}
-use Rattle.gp_whatif.specs.Replays.{IsMade, IsReplayable}
 use Rattle.gp_serial.specs.Comparing.{ends_same, first_do_same, next_does_same, passes_first}
 use Rattle.gp_serial.specs.Running.{are_equal, keyed}
 use Rattle.gp_serial.specs.SerialLogs.{begun, created, serial_entries, with_transaction, with_transactions}

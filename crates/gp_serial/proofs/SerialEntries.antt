@@ -1,17 +1,7 @@
 -- What the entries of the serial log say of its transactions.
-use Rattle.std.proofs.Common.{◌≡◌, ◌<◌, ◌≤◌, ℕ, zero, suc, Bool, true, false, cond, List, [], ◌∷◌, ◌++◌, length, map, reverse, Option, Some, None, refl, sym, ap, ◌∙◌, subst, arith, ⊎_elim}
-use Rattle.std.specs.Prelude.{◌==◌, ◌&&◌, ◌||◌, if◌then◌else◌}
-use Rattle.std.specs.List.{list_any}
-use Rattle.std.specs.Option.{option_map_or}
-use Rattle.std.proofs.lemmas.Bool.{cases_lt, eqb-true, false≢true}
-use Rattle.gp_base.specs.declared.table.Table.{Table}
-use Rattle.gp_base.proofs.SmallLemmas.{eq_itself, eq_not}
+use Rattle.gp_serial.proofs.Prelude.{◌≡◌, ◌<◌, ◌≤◌, ℕ, zero, suc, Bool, true, false, cond, List, [], ◌∷◌, ◌++◌, length, map, reverse, Option, Some, None, refl, sym, ap, ◌∙◌, subst, arith, ⊎_elim, ◌==◌, ◌&&◌, ◌||◌, if◌then◌else◌, list_any, option_map_or, cases_lt, eqb-true, false≢true, Table, eq_itself, eq_not, Statement, reverse-append, reverse-reverse, Entry, Began, Created, Ran, committer_of, statement_at, statement_count, statement_version, transactions_in, versions_in, tables_in, no-statement}
 use Rattle.gp_grammar.specs.Syntax as y
-use Rattle.gp_algebra.specs.Statements.{Statement}
-use Rattle.std.proofs.lemmas.List.{reverse-append, reverse-reverse}
-use Rattle.gp_machine.specs.Entries.{Entry, Began, Created, Ran, begin_version, committer_of, is_read_committed, read_next, statement_at, statement_count, statement_version, transactions_in, versions_in}
-use Rattle.gp_log.specs.LogFacts.{tables_in}
-use Rattle.gp_log.proofs.NumberingLemmas.{no-statement}
+use Rattle.gp_machine.specs.Entries.{begin_version, is_read_committed, read_next}
 use Rattle.gp_serial.specs.SerialLogs.{begun, created, with_statements, with_transaction, with_transactions}
 
 -- ---- the statements of one transaction

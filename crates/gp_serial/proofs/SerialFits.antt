@@ -1,21 +1,7 @@
 -- The serial log keeps its sessions, and its statements fit its tables: so it can be replayed.
-use Rattle.std.proofs.Common.{◌≡◌, ◌<◌, ◌≤◌, ℕ, zero, suc, Bool, true, false, cond, List, [], ◌∷◌, map, reverse, Option, Some, None, refl, sym, ap, ◌∙◌, subst, arith, ⊎_elim}
-use Rattle.std.specs.Prelude.{◌==◌, ◌&&◌, ◌||◌}
-use Rattle.std.specs.List.{AllByRecursion, list_any}
-use Rattle.std.specs.Option.{option_map_or}
-use Rattle.std.proofs.lemmas.Bool.{cases_lt, eqb-true, false≢true}
-use Rattle.gp_base.specs.declared.table.Table.{Table}
-use Rattle.gp_base.proofs.SmallLemmas.{eq_itself, eq_not}
+use Rattle.gp_serial.proofs.Prelude.{◌≡◌, ◌<◌, ◌≤◌, ℕ, zero, suc, Bool, true, false, cond, List, [], ◌∷◌, map, reverse, Option, Some, None, refl, sym, ap, ◌∙◌, subst, arith, ⊎_elim, ◌==◌, ◌&&◌, ◌||◌, AllByRecursion, list_any, option_map_or, cases_lt, eqb-true, false≢true, Table, eq_itself, eq_not, Statement, Entry, Created, Ran, statement_at, statement_count, transactions_in, is_known, AreDistinct, statements_fit, KeepsSessions, FitsIfSome, logged_fits, IsReplayable}
 use Rattle.gp_grammar.specs.Syntax as y
-use Rattle.gp_algebra.specs.Statements.{Statement}
-use Rattle.gp_machine.specs.Entries.{Entry, Created, Ran, statement_at, statement_count, transactions_in}
-use Rattle.gp_machine.specs.Questions.{is_known}
-use Rattle.gp_machine.specs.SeenRows.{AreDistinct}
 use Rattle.gp_log.specs.Discipline.{transaction_in}
-use Rattle.gp_log.specs.LogFitting.{statements_fit}
-use Rattle.gp_log.specs.Sessions.{KeepsSessions}
-use Rattle.gp_reenact.proofs.HeldLemmas.{FitsIfSome, logged_fits}
-use Rattle.gp_whatif.specs.Replays.{IsReplayable}
 use Rattle.gp_serial.specs.SerialLogs.{begun, created, serial_entries, with_statements, with_transaction, with_transactions}
 use Rattle.gp_serial.proofs.SerialEntries.{kept}
 use Rattle.gp_serial.proofs.SerialOrders.{known_parts, own_tables}

@@ -1,17 +1,7 @@
 -- The entries of the serial log say that the transactions run one after another in their order.
-use Rattle.std.proofs.Common.{◌≡◌, ◌<◌, ◌≤◌, ◌+◌, ℕ, zero, suc, Bool, true, false, cond, List, [], ◌∷◌, length, get_or, refl, sym, ap, ◌∙◌, arith}
-use Rattle.std.specs.Prelude.{◌==◌, ◌||◌, nat_le, nat_lt}
-use Rattle.std.specs.List.{AllByRecursion, list_any}
-use Rattle.std.proofs.lemmas.Bool.{and_parts, false≢true}
-use Rattle.std.proofs.lemmas.Bool.Decides.{nat_tests}
-use Rattle.gp_base.specs.declared.table.Table.{Table}
-use Rattle.gp_base.proofs.SmallLemmas.{eq_itself, eq_turned}
-use Rattle.gp_machine.specs.Entries.{Entry, log_of, transactions_in, versions_in}
-use Rattle.gp_machine.specs.Questions.{is_known}
-use Rattle.gp_machine.specs.SeenRows.{AreDistinct}
+use Rattle.gp_serial.proofs.Prelude.{◌≡◌, ◌<◌, ◌≤◌, ◌+◌, ℕ, zero, suc, Bool, true, false, cond, List, [], ◌∷◌, length, get_or, refl, sym, ap, ◌∙◌, arith, ◌==◌, ◌||◌, nat_le, nat_lt, AllByRecursion, list_any, and_parts, false≢true, nat_tests, Table, eq_itself, Entry, log_of, transactions_in, versions_in, is_known, AreDistinct, place_in, tables_in}
+use Rattle.gp_base.proofs.SmallLemmas.{eq_turned}
 use Rattle.gp_machine.specs.SerialForms.{AreOnce}
-use Rattle.gp_machine.specs.SerialRuns.{place_in}
-use Rattle.gp_log.specs.LogFacts.{tables_in}
 use Rattle.gp_serial.specs.SerialLogs.{serial_entries}
 use Rattle.gp_serial.proofs.SerialEntries.{AreNext, Says, base, behind, done_after, is_done, says_all, says_first}
 use Rattle.gp_serial.proofs.SerialReplays.{SaysSerial}

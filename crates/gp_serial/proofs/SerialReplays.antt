@@ -1,24 +1,15 @@
 -- A log in which all transactions begin before the first statement, read committed, and then run one after another is replayed as the one in which each begins
 -- behind the one before it.
-use Rattle.std.proofs.Common.{◌≡◌, ◌<◌, ◌≤◌, ℕ, zero, suc, true, false, cond, List, [], ◌∷◌, ◌++◌, length, get_or, refl, sym, ap, ◌∙◌, arith}
-use Rattle.std.specs.Prelude.{◌+◌, filter, nat_lt}
-use Rattle.std.specs.Option.{option_or}
-use Rattle.std.proofs.lemmas.List.{append-nil}
-use Rattle.gp_base.specs.Annotated.{Annotated, Database, Environment, unannotated}
-use Rattle.gp_base.proofs.SmallLemmas.{eq_itself, eq_not}
-use Rattle.gp_machine.specs.Bases.{pairs, with_bases}
-use Rattle.gp_machine.specs.Committed.{cleared, next_version}
+use Rattle.gp_serial.proofs.Prelude.{◌≡◌, ◌<◌, ◌≤◌, ℕ, zero, suc, true, false, cond, List, [], ◌∷◌, ◌++◌, length, get_or, refl, sym, ap, ◌∙◌, arith, filter, nat_lt, option_or, append-nil, Annotated, Database, Environment, unannotated, eq_itself, eq_not, pairs, next_version, Log, run_stop, statement_stop, publish, Seen, Replay, replay_stop, replayed, rerun, version_stop, refreshed, run, run_before, stepped, place_in, serial_log, parameters}
+use Rattle.std.specs.Prelude.{◌+◌}
+use Rattle.gp_machine.specs.Bases.{with_bases}
+use Rattle.gp_machine.specs.Committed.{cleared}
 use Rattle.gp_machine.specs.Conflicts.{least_conflict}
-use Rattle.gp_machine.specs.Entries.{Log}
 use Rattle.gp_machine.specs.Event.{published_rows}
-use Rattle.gp_machine.specs.Points.{run_stop, statement_stop}
-use Rattle.gp_machine.specs.Publishing.{publish}
-use Rattle.gp_machine.specs.Reading.{Seen, wrote_by}
-use Rattle.gp_machine.specs.Replaying.{Replay, commit_stop, first_stop, remade, replay_stop, replayed, rerun, run_written, version_stop}
-use Rattle.gp_machine.specs.Runs.{refreshed, run, run_before, stepped}
-use Rattle.gp_machine.specs.SerialRuns.{place_in, serial_log}
+use Rattle.gp_machine.specs.Reading.{wrote_by}
+use Rattle.gp_machine.specs.Replaying.{commit_stop, first_stop, remade, run_written}
 use Rattle.gp_machine.specs.State.{empty_database, with_value}
-use Rattle.gp_log.specs.Parameters.{parameters}
+use Rattle.gp_serial.proofs.RunningLemmas.{all_kept}
 
 -- ---- what the log says
 
@@ -31,10 +22,6 @@ pub record SaysSerial (log : Log) (order : List ℕ) (own : Log) : Type 0 where
   pub statement : (u k : ℕ) → u < length order → k < log.statement_count (get_or order u 0) → own.statement (get_or order u 0) (suc k) ≡ log.statement (get_or order u 0) (suc k)
 
 -- ---- nothing is published over nothing
-
-all_kept : {A : Type 0} (xs : List A) → filter (λ x. true) xs ≡ xs
-all_kept [] = refl
-all_kept (x ∷ xs) = ap (λ others. x ∷ others) (all_kept xs)
 
 publish_nothing : (later : Database (Unit {0})) → publish empty_database empty_database later ≡ later
 publish_nothing later = λ i table. (append-nil (filter (λ (row : Annotated (Unit {0})). true) (later table)) ∙ all_kept (later table)) i

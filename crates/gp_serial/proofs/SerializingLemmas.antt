@@ -1,30 +1,12 @@
 -- The transactions that committed, and an order of them.
-use Rattle.std.proofs.Common.{◌≡◌, ◌≢◌, ◌<◌, ◌≤◌, ◌+◌, ◌^◌, ℕ, zero, suc, Bool, true, false, cond, List, [], ◌∷◌, ◌++◌, length, get_or, Option, Some, None, is_some, refl, sym, ap, ◌∙◌, subst, arith, add-one, length-append, ⊎_elim}
-use Rattle.std.specs.Prelude.{◌==◌, ◌&&◌, ◌||◌, filter, find, nat_le, nat_lt, not, Contains}
-use Rattle.std.specs.List.{AllByRecursion, list_any}
-use Rattle.std.specs.Option.{option_map, option_map_or}
-use Rattle.std.proofs.lemmas.Bool.{cases_lt, eqb-true, false≢true}
-use Rattle.std.proofs.lemmas.Bool.Decides.{nat_tests}
-use Rattle.std.proofs.lemmas.Grind.{get_or_default_zero}
-use Rattle.std.proofs.lemmas.List.{get_or-map, length-map}
-use Rattle.std.proofs.lemmas.List.Folds.{list_any-append}
-use Rattle.gp_base.specs.Annotated.{unannotated}
-use Rattle.gp_base.proofs.Bags.{any_same, as_long}
-use Rattle.gp_base.proofs.SmallLemmas.{eq_itself, none_parts, some_none}
-use Rattle.gp_log.specs.LogFacts.{tables_in}
-use Rattle.gp_log.specs.Parameters.{parameters}
-use Rattle.gp_log.specs.Sessions.{KeepsSessions}
+use Rattle.gp_serial.proofs.Prelude.{◌≡◌, ◌≢◌, ◌<◌, ◌≤◌, ◌+◌, ℕ, zero, suc, Bool, true, false, cond, List, [], ◌∷◌, ◌++◌, length, get_or, Option, Some, None, refl, sym, ap, ◌∙◌, subst, arith, add-one, length-append, ⊎_elim, ◌==◌, ◌&&◌, ◌||◌, filter, find, nat_le, nat_lt, not, Contains, AllByRecursion, list_any, option_map, option_map_or, cases_lt, eqb-true, false≢true, nat_tests, get_or_default_zero, get_or-map, length-map, list_any-append, unannotated, as_long, eq_itself, none_parts, some_none, tables_in, parameters, KeepsSessions, Entry, committer_of, log_of, statement_count, transactions_in, versions_in, as_of, RunStop, run_stop, is_before, numbers, RowChange, is_known, stop_refusal, Span}
+use Rattle.std.proofs.Common.{◌^◌, is_some}
+use Rattle.gp_base.proofs.Bags.{any_same}
 use Rattle.gp_log.proofs.KeptSessions.{orderly}
-use Rattle.gp_machine.specs.Entries.{Entry, committer_of, is_commit, log_of, statement_count, transactions_in, version_of, versions_in}
-use Rattle.gp_machine.specs.HistorySpans.{as_of}
-use Rattle.gp_machine.specs.Points.{RunStop, run_stop}
-use Rattle.gp_machine.specs.Precedence.{is_before, numbers}
-use Rattle.gp_machine.specs.RowChanges.{RowChange}
+use Rattle.gp_machine.specs.Entries.{is_commit, version_of}
 use Rattle.gp_machine.specs.SerialRuns.{is_serial}
-use Rattle.gp_machine.specs.Questions.{is_known, stop_refusal}
 use Rattle.gp_machine.proofs.EntryCounts.{count-most}
 use Rattle.gp_machine.proofs.HeldPoints.{version_is}
-use Rattle.gp_versions.specs.declared.span.Span.{Span}
 use Rattle.gp_serial.specs.Graphs.{is_free, least_cycle, order_of, ordered}
 use Rattle.gp_serial.specs.Preceding.{IsMadeBy, IsPrecedence}
 use Rattle.gp_serial.specs.SerialLogs.{AreFew}
@@ -33,15 +15,13 @@ use Rattle.gp_serial.specs.Serializing.{InOrder, Serial, Undecided, by_number, c
 use Rattle.gp_serial.proofs.AgreeLemmas.{least_agree, order_agree}
 use Rattle.gp_serial.proofs.OrderLemmas.{AreDifferent, order_takes, rest_of, without_different}
 use Rattle.gp_serial.proofs.WholeOrders.{is_in, none_least}
+use Rattle.gp_merge.proofs.NormalLemmas.{either_false}
 
 -- ---- numbers
 
 pub numbers_long : (n : ℕ) → length (numbers n) ≡ n
 numbers_long zero = refl
 numbers_long (suc n) = length-append (numbers n) (suc n ∷ []) ∙ add-one (length (numbers n)) ∙ ap suc (numbers_long n)
-
-pub numbers_next : (n : ℕ) → numbers (n + 1) ≡ numbers n ++ (n + 1) ∷ []
-numbers_next n = subst (λ m. numbers m ≡ numbers n ++ m ∷ []) (sym (add-one n)) refl
 
 at_end : (xs : List ℕ) (x : ℕ) (n : ℕ) → n ≡ length xs → get_or (xs ++ x ∷ []) n 0 ≡ x
 at_end [] x zero e = refl
@@ -126,15 +106,11 @@ gone t (u ∷ left) = by (u == t) refl (gone t left)
     by true is rest = rest
     by false is rest = λ i. is i || rest i
 
-front : (x y : Bool) → (x || y) ≡ false → x ≡ false
-front true y e = absurd (false≢true (sym e))
-front false y e = refl
-
 module _ (is_before : ℕ → ℕ → Bool) where
   -- what none passes, none of an order passes
   ordered_fails : (p : ℕ → Bool) (more : ℕ) (left : List ℕ) → AreDifferent left → list_any p left ≡ false → list_any p (ordered is_before more left) ≡ false
   ordered_fails p more left once none =
-      front (list_any p (ordered is_before more left)) (list_any p (rest_of is_before more left))
+      either_false (list_any p (ordered is_before more left)) (list_any p (rest_of is_before more left))
       (sym (list_any-append p (ordered is_before more left) (rest_of is_before more left)) ∙ any_same p (order_takes is_before more left once) ∙ none)
 
   ordered_different : (more : ℕ) (left : List ℕ) → AreDifferent left → AreDifferent (ordered is_before more left)

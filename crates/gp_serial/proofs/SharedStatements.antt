@@ -1,13 +1,10 @@
 -- A statement of a log is not among its first entries, until it is found.
-use Rattle.std.proofs.Common.{◌≡◌, ◌∙◌, ◌+◌, ℕ, suc, Bool, true, false, cond, List, ◌∷◌, Option, Some, None, take, refl, sym, ap, subst}
-use Rattle.std.specs.Prelude.{◌==◌, ◌&&◌, slice_get}
-use Rattle.std.proofs.lemmas.Bool.{eqb-true, false≢true}
+use Rattle.gp_serial.proofs.Prelude.{◌≡◌, ◌∙◌, ◌+◌, ℕ, suc, Bool, true, false, cond, List, ◌∷◌, Some, None, take, refl, sym, ap, ◌==◌, ◌&&◌, slice_get, eqb-true, statement_at, statement_count, log_view}
 use Rattle.gp_algebra.specs.Views.{statement_view}
 use Rattle.gp_machine.specs.Entries as m
-use Rattle.gp_machine.specs.Entries.{statement_at, statement_count}
 use Rattle.gp_log.specs.Finding.{is_numbered, is_own}
 use Rattle.gp_log.specs.Kinds.{HasNextNumber, IsNumbered}
-use Rattle.gp_log.specs.Logs.{entry_view, log_view, what_view}
+use Rattle.gp_log.specs.Logs.{what_view}
 use Rattle.gp_log.specs.declared.entry.Entry.{Entry}
 use Rattle.gp_log.specs.declared.entry.What.{What}
 use Rattle.gp_log.specs.declared.entry.What.TheVariants as w

@@ -1,15 +1,7 @@
 -- The steps of a cycle, one after another.
-use Rattle.std.proofs.Common.{◌≡◌, ◌<◌, ◌≤◌, ◌+◌, ℕ, suc, Bool, true, false, cond, List, [], ◌∷◌, ◌++◌, length, map, drop, get_or, None, refl, sym, ap, ◌∙◌, arith, add-one}
-use Rattle.std.specs.Prelude.{nat_lt, slice_get, ◌==◌}
+use Rattle.gp_serial.proofs.Prelude.{◌≡◌, ◌<◌, ◌≤◌, ◌+◌, ℕ, suc, Bool, true, false, cond, List, [], ◌∷◌, ◌++◌, length, map, drop, get_or, None, refl, sym, ap, ◌∙◌, arith, add-one, nat_lt, slice_get, ◌==◌, eqb-true, nat_tests, append_assoc, drop_more, Table, eq_itself, Entry, read_after, read_before, reasons, wrote_before, RowChange}
 use Rattle.std.proofs.Common.{true≢false}
-use Rattle.std.proofs.lemmas.Bool.{eqb-true}
-use Rattle.std.proofs.lemmas.Bool.Decides.{nat_tests}
-use Rattle.std.proofs.lemmas.List.{append_assoc, drop_all, drop_more, map-append}
-use Rattle.gp_base.specs.declared.table.Table.{Table}
-use Rattle.gp_base.proofs.SmallLemmas.{eq_itself}
-use Rattle.gp_machine.specs.Entries.{Entry}
-use Rattle.gp_machine.specs.Precedence.{read_after, read_before, reasons, wrote_before}
-use Rattle.gp_machine.specs.RowChanges.{RowChange}
+use Rattle.std.proofs.lemmas.List.{drop_all, map-append}
 use Rattle.gp_serial.specs.declared.serializing.Step as code
 use Rattle.gp_serial.specs.SerialViews.{cycle_answer, next_in, step_view}
 use Rattle.gp_serial.specs.Serializing.{InCycle, Undecided, step_of, steps_of, steps_to}

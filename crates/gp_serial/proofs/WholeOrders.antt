@@ -1,13 +1,5 @@
 -- Where an order has all numbers there is no cycle of them: each comes behind those that are before it.
-use Rattle.std.proofs.Common.{◌≡◌, ◌≢◌, ◌<◌, ℕ, zero, suc, Bool, true, false, cond, List, [], ◌∷◌, length, Option, Some, None, refl, sym, ap, ◌∙◌, subst, arith}
-use Rattle.std.specs.Prelude.{◌==◌, ◌||◌, filter, find, not, unwrap_or}
-use Rattle.std.specs.List.{AllByRecursion, flat_map, list_any}
-use Rattle.std.specs.Option.{option_map_or}
-use Rattle.std.proofs.lemmas.Bool.{and_parts, eqb-true, false≢true}
-use Rattle.std.proofs.lemmas.Option.{same_Some}
-use Rattle.gp_base.proofs.SmallLemmas.{eq_itself}
-use Rattle.gp_machine.specs.Precedence.{numbers}
-use Rattle.gp_machine.specs.SerialRuns.{place_in}
+use Rattle.gp_serial.proofs.Prelude.{◌≡◌, ◌≢◌, ◌<◌, ℕ, zero, suc, Bool, true, false, cond, List, [], ◌∷◌, length, Option, Some, None, refl, sym, ap, ◌∙◌, subst, arith, ◌==◌, ◌||◌, filter, find, not, unwrap_or, AllByRecursion, flat_map, list_any, option_map_or, and_parts, eqb-true, false≢true, same_Some, eq_itself, numbers, place_in}
 use Rattle.gp_serial.specs.Graphs.{closes, is_cycle, is_free, least_cycle, lists_of, ordered}
 use Rattle.gp_serial.proofs.AgreeLemmas.{all_lists_in}
 use Rattle.gp_serial.proofs.OrderLemmas.{rest_of}

@@ -1,11 +1,11 @@
 -- Of the contracts that compare what transactions do one after another with what they did.
-use Rattle.std.specs.Prelude.{◌≡◌, ℕ, zero, suc, ◌≤◌, ◌&&◌, ◌||◌, not, Bool, true, false, List, length, Contains, None, Some, Result, Ok, Err}
+use Rattle.std.specs.Prelude.{◌≡◌, ℕ, zero, suc, ◌<◌, ◌≤◌, ◌&&◌, ◌||◌, not, Bool, true, false, List, length, Contains, None, Some, Result, Ok, Err}
 use Rattle.std.specs.List.{list_all}
 use Rattle.std.specs.Option.{option_map, option_map_or}
 use Rattle.gp_base.specs.declared.table.Table.{Table}
 use Rattle.gp_base.specs.Annotated.{Database, unannotated}
 use Rattle.gp_base.specs.Order.{row_cmp, sorted_by}
-use Rattle.gp_algebra.specs.Statements.{Statement}
+use Rattle.gp_algebra.specs.Statements.{Statement, insert, insert_select}
 use Rattle.gp_log.specs.Contents.{StatementsFit, entries, tables}
 use Rattle.gp_log.specs.LogFitting.{SpansFit}
 use Rattle.gp_log.specs.Logs.{Logged}
@@ -26,6 +26,19 @@ use Rattle.gp_serial.specs.declared.error.SerialStop.{SerialStop}
 use Rattle.gp_serial.specs.declared.error.SerialStop.TheVariants.{Refused, NoMemory}
 use Rattle.gp_serial.specs.Running.{are_equal, rows_at}
 use Rattle.gp_serial.specs.Serializing.{runs_refusal}
+
+-- an INSERT may pass a limit, no other statement does
+abbrev pub may_stop : Statement → Bool
+may_stop (insert table rows) = true
+may_stop (insert_select table select) = true
+may_stop statement = false
+
+abbrev pub may_stop_at : ℕ → ℕ → List Entry → Bool
+may_stop_at t k entries = option_map_or may_stop (statement_at t k entries) false
+
+-- statements of these numbers pass none, whatever they read
+abbrev pub NoneStops : ℕ → ℕ → ℕ → List Entry → Type 0
+NoneStops t low high entries = (k : ℕ) → low < k → k ≤ high → may_stop_at t k entries ≡ false
 
 -- a transaction runs whole, or where it stops
 abbrev pub ChecksRun : List Entry → (ℕ → List Span) → ℕ → Result (Unit {0}) SerialStop → Type 0

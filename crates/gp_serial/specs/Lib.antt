@@ -1,6 +1,7 @@
 pub mod Changes
 pub mod Comparing
 pub mod CycleForms
+pub mod Finding
 pub mod Graphs
 pub mod LeastCycles
 pub mod LookViews

@@ -22,6 +22,7 @@
 mod changes;
 mod cycle;
 mod error;
+mod finding;
 mod graph;
 mod laws;
 mod log;

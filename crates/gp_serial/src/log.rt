@@ -1,12 +1,10 @@
 //! The log in which transactions run one after another.
 
-ghost use Rattle.std.specs.Prelude.{◌≡◌, ◌<◌, ◌≤◌, ◌+◌, ◌++◌, ◌^◌, ℕ, suc, true, take, length, IfOk, OnOk};
-ghost use Rattle.gp_log.specs.Contents.{StatementsFit, entries, tables};
-ghost use Rattle.gp_log.specs.Kinds.{IsAddable};
+ghost use Rattle.std.specs.Prelude.{◌≡◌, ◌<◌, ◌+◌, ◌^◌, suc, true, length, IfOk, OnOk};
+ghost use Rattle.gp_log.specs.Contents.{entries, tables};
 ghost use Rattle.gp_log.specs.Logs.{entry_view};
-ghost use Rattle.gp_log.specs.Sessions.{KeepsSessions};
 ghost use Rattle.gp_algebra.specs.Views.{statement_view};
-ghost use Rattle.gp_machine.specs.Entries.{statement_at, statement_count, statement_of, transactions_in};
+ghost use Rattle.gp_machine.specs.Entries.{statement_at, statement_count, statement_of};
 ghost use Rattle.std.specs.Option.{option_map};
 ghost use Rattle.gp_serial.specs.SerialLogs as s;
 

@@ -1,6 +1,6 @@
 //! Whether a statement looks at a row that was changed.
 
-ghost use Rattle.std.specs.Prelude.{◌≡◌, Bool, true, false, map};
+ghost use Rattle.std.specs.Prelude.{◌≡◌, true, false, map};
 ghost use Rattle.std.specs.List.{list_any};
 ghost use Rattle.std.specs.Option.{option_map, option_map_or};
 ghost use Rattle.std.specs.Ordering.{is_eq};

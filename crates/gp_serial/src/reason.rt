@@ -1,6 +1,6 @@
 //! Why a transaction comes before another one.
 
-ghost use Rattle.std.specs.Prelude.{◌≡◌, ◌<◌, ◌≢◌, ℕ, map, slice_get, IfOk};
+ghost use Rattle.std.specs.Prelude.{◌≡◌, ◌<◌, ◌≢◌, map, slice_get, IfOk};
 ghost use Rattle.std.specs.Option.{option_map};
 ghost use Rattle.gp_log.specs.Contents.{StatementsFit, entries, tables};
 ghost use Rattle.gp_machine.specs.Precedence as m;
@@ -124,7 +124,7 @@ fn first_reading<'a>(
 ) -> Result<Option<(u32, RowChange<'a>)>, NoMemory>
     requires fits { StatementsFit log.now }
     requires made { AreMade (entries log.now) changes.now }
-    ensures { IfOk result (λ found. option_map (λ own. (own.0, change_view own.1)) found
+    ensures { IfOk result (λ found. option_map (λ pair. (pair.0, change_view pair.1)) found
         ≡ r.first_reading (tables log.now) (entries log.now) reader writer (map change_view changes.now) earlier) }
 {
     for before in 0..log.statement_count(reader) {
@@ -159,7 +159,7 @@ fn first_rewrite<'a>(
     None
 }
 
-/// The same, if the change is of transaction a.
+/// The rewrite of a change of transaction a; no other change has one.
 fn rewrite_by<'a>(
     change: &RowChange<'_>,
     a: u32,

@@ -1,10 +1,8 @@
 //! Which transactions come before which others.
 
-ghost use Rattle.std.specs.Prelude.{◌≡◌, ◌<◌, ◌≤◌, ◌+◌, ℕ, true, map, length, IfOk, OnOk};
-ghost use Rattle.gp_algebra.specs.Fitting.{statement_fits};
-ghost use Rattle.gp_algebra.specs.Views.{statement_view};
+ghost use Rattle.std.specs.Prelude.{◌≡◌, ◌<◌, ◌+◌, map, IfOk, OnOk};
 ghost use Rattle.gp_log.specs.Contents.{StatementsFit, entries, tables};
-ghost use Rattle.gp_machine.specs.Entries.{committer_of, statement_count, transactions_in};
+ghost use Rattle.gp_machine.specs.Entries.{statement_count};
 ghost use Rattle.gp_machine.specs.Precedence as m;
 ghost use Rattle.gp_serial.specs.Changes.{AreMade, change_view};
 ghost use Rattle.gp_serial.specs.LookViews.{look_view};
@@ -49,7 +47,7 @@ fn add_change(t: u32, version: u32, look: &Look<'_>, change: &RowChange<'_>, gra
     }
 }
 
-/// The same for all changes.
+/// Adds what one look of a statement orders, by all changes.
 fn add_look(t: u32, version: u32, look: &Look<'_>, changes: &[RowChange<'_>], graph: &mut Graph)
     requires { IsReady look.now }
     ensures { Gains (p.linked_by t version changes.now (look_view look.now))
@@ -60,7 +58,7 @@ fn add_look(t: u32, version: u32, look: &Look<'_>, changes: &[RowChange<'_>], gr
     }
 }
 
-/// The same for all looks of a statement.
+/// Adds what all looks of a statement order.
 fn add_looks(t: u32, version: u32, looks: &[Look<'_>], changes: &[RowChange<'_>], graph: &mut Graph)
     requires { AreReady looks.now }
     ensures { Gains (p.looks_links t version changes.now (map look_view looks.now))
@@ -71,7 +69,7 @@ fn add_looks(t: u32, version: u32, looks: &[Look<'_>], changes: &[RowChange<'_>]
     }
 }
 
-/// The same for a statement of a transaction.
+/// Adds what a statement of a transaction orders by what it looks at.
 fn add_statement(
     alloc: Global,
     log: &Log,
@@ -92,7 +90,7 @@ fn add_statement(
     Ok(())
 }
 
-/// The same for all statements of a transaction.
+/// Adds what all statements of a transaction order.
 fn add_transaction(
     alloc: Global,
     log: &Log,
@@ -110,7 +108,7 @@ fn add_transaction(
     Ok(())
 }
 
-/// The same for all of these transactions.
+/// Adds what the statements of all these transactions order.
 fn add_transactions(
     alloc: Global,
     log: &Log,
@@ -150,7 +148,7 @@ fn add_pair(change: &RowChange<'_>, other: &RowChange<'_>, graph: &mut Graph)
     }
 }
 
-/// The same for the first changes behind it, which are those of its row.
+/// Orders the writer of a change and those of the changes behind it up to the first one of another row.
 fn add_writes(change: &RowChange<'_>, others: &[RowChange<'_>], graph: &mut Graph)
     ensures { Gains (p.first_links change.now others.now) graph.old graph.new }
 {
@@ -162,7 +160,7 @@ fn add_writes(change: &RowChange<'_>, others: &[RowChange<'_>], graph: &mut Grap
     }
 }
 
-/// The same for all changes.
+/// Orders the writers of each row, the changes of which stand together.
 fn add_rows(changes: &[RowChange<'_>], graph: &mut Graph)
     ensures { Gains (p.row_links changes.now) graph.old graph.new }
 {

@@ -1,16 +1,14 @@
 //! What statements do, over row versions.
 
 ghost use Rattle.std.specs.Ordering.{is_eq};
-ghost use Rattle.std.specs.Prelude.{◌≡◌, ◌<◌, ◌≤◌, ◌+◌, ◌-◌, ◌^◌, ℕ, true, length, map, IfOk, OnOk, Some};
+ghost use Rattle.std.specs.Prelude.{◌≡◌, ◌<◌, ◌+◌, ◌-◌, true, IfOk, Some};
 ghost use Rattle.std.specs.Option.{option_map};
 ghost use Rattle.gp_algebra.specs.Statements.{read};
 ghost use Rattle.gp_algebra.specs.Views.{select_view, statement_view};
 ghost use Rattle.gp_base.specs.Order.{row_cmp, sorted_by};
 ghost use Rattle.gp_compose.specs.Seen.{is_changed_by, writes};
-ghost use Rattle.gp_log.specs.Contents.{StatementsFit, entries, tables};
-ghost use Rattle.gp_log.specs.LogFitting.{SpansFit};
-ghost use Rattle.gp_machine.specs.Entries.{statement_at, statement_count};
-ghost use Rattle.gp_machine.specs.Questions.{is_known};
+ghost use Rattle.gp_log.specs.Contents.{entries};
+ghost use Rattle.gp_machine.specs.Entries.{statement_at};
 ghost use Rattle.gp_reenact.specs.Reenacting.{spans_of};
 ghost use Rattle.gp_serial.specs.Running as s;
 
@@ -25,7 +23,7 @@ use std::cmp::Ordering;
 
 /// Rows in row order.
 fn sorted(rows: Vec<Row>) -> Result<Vec<Row>, NoMemory>
-    ensures { IfOk result (λ own. own.items ≡ sorted_by row_cmp rows.items) }
+    ensures { IfOk result (λ sorted. sorted.items ≡ sorted_by row_cmp rows.items) }
 {
     let mut rows = rows;
     sort_rows(&mut rows)?;
@@ -54,7 +52,7 @@ fn limited(refusal: Refusal) -> Result<Option<Vec<Row>>, SerialStop>
     }
 }
 
-/// The same for a stop of a run.
+/// What a stop of a run leaves of an answer: none where it had too many rows.
 fn unanswered(stop: Stop) -> Result<Option<Vec<Row>>, SerialStop>
     ensures { s.IsUnanswered stop result }
 {
@@ -99,15 +97,15 @@ fn identity_of(row: &Row) -> Option<&RowId>
 
 /// The row without its mark.
 fn unmarked(alloc: Global, row: &Row) -> Result<Row, NoMemory>
-    ensures { IfOk result (λ own. own ≡ s.unmarked row.now) }
+    ensures { IfOk result (λ copy. copy ≡ s.unmarked row.now) }
 {
     let cells = row.cells();
     let count = cells.len().saturating_sub(1);
-    let mut own = Row::with_capacity(alloc, count)?;
+    let mut copy = Row::with_capacity(alloc, count)?;
     for i in 0..count {
-        own.push(cells[i].clone()?)?;
+        copy.push(cells[i].clone()?)?;
     }
-    Ok(own)
+    Ok(copy)
 }
 
 /// Whether a statement changed a row of those by which one looks at it.
@@ -128,7 +126,7 @@ fn changed_of(
     stmt: &Stmt,
     rows: &[Row],
 ) -> Result<Vec<Row>, NoMemory>
-    ensures { IfOk result (λ own. own.items ≡ s.changed_of t k (statement_view stmt.now) rows.now) }
+    ensures { IfOk result (λ found. found.items ≡ s.changed_of t k (statement_view stmt.now) rows.now) }
 {
     let mut changed = Vec::new(alloc);
     for row in rows {
@@ -218,16 +216,16 @@ pub(crate) fn is_same(rows: &Option<Vec<Row>>, others: &Option<Vec<Row>>) -> boo
 }
 
 /// A row of a span, with its identity behind its cells.
-fn row_of(alloc: Global, id: &RowId, row: &Row) -> Result<Row, NoMemory>
-    ensures { IfOk result (λ own. own ≡ s.keyed id.now row.now) }
+pub(crate) fn row_of(alloc: Global, id: &RowId, row: &Row) -> Result<Row, NoMemory>
+    ensures { IfOk result (λ copy. copy ≡ s.keyed id.now row.now) }
 {
     let cells = row.cells();
-    let mut own = Row::with_capacity(alloc, cells.len() + 1)?;
+    let mut copy = Row::with_capacity(alloc, cells.len() + 1)?;
     for cell in cells {
-        own.push(cell.clone()?)?;
+        copy.push(cell.clone()?)?;
     }
-    own.push(Cell::Id(id.clone()?))?;
-    Ok(own)
+    copy.push(Cell::Id(id.clone()?))?;
+    Ok(copy)
 }
 
 /// The rows of a table in a version, each with its identity, in row order.

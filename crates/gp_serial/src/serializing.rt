@@ -1,11 +1,12 @@
 //! Whether the transactions could have run one after another.
 
-ghost use Rattle.std.specs.Prelude.{◌≡◌, ◌<◌, ◌≤◌, ◌+◌, ◌^◌, ℕ, suc, true, None, map, length, slice_get, IfOk, OnOk};
+ghost use Rattle.std.specs.Prelude.{◌≡◌, ◌<◌, ◌≤◌, ◌+◌, true, None, map, length, slice_get, IfOk};
 ghost use Rattle.std.specs.List.{AllByRecursion};
 ghost use Rattle.std.specs.Option.{option_map};
+ghost use Rattle.gp_algebra.specs.Views.{statement_view};
 ghost use Rattle.gp_log.specs.Contents.{StatementsFit, commits, entries, tables};
 ghost use Rattle.gp_log.specs.Parameters.{parameters};
-ghost use Rattle.gp_machine.specs.Entries.{committer_of, transactions_in, versions_in};
+ghost use Rattle.gp_machine.specs.Entries.{statement_count};
 ghost use Rattle.gp_machine.specs.Precedence as m;
 ghost use Rattle.gp_machine.specs.Questions.{is_known};
 ghost use Rattle.gp_machine.specs.RowChanges.{tables_changes};
@@ -23,12 +24,14 @@ ghost use Rattle.gp_serial.specs.Serializing as s;
 use crate::changes::{RowChange, changes_of};
 use crate::cycle::least_cycle;
 use crate::error::SerialStop;
+use crate::finding::done;
 use crate::graph::Graph;
 use crate::log::serial_log;
 use crate::order::order_of;
 use crate::reason::{Reason, reason_of};
 use crate::relation::precedence;
 use crate::running::{are_equal, is_same, rows_at, shown};
+use gp_algebra::Stmt;
 use gp_base::NoMemory;
 use gp_log::Log;
 use gp_versions::VersionTable;
@@ -61,7 +64,7 @@ pub enum Serial<'a> {
 
 /// The transactions that committed, in the order of their versions.
 fn committers(alloc: Global, log: &Log) -> Result<Vec<u32>, NoMemory>
-    ensures { IfOk result (λ own. own.items ≡ s.committers (entries log.now)) }
+    ensures { IfOk result (λ found. found.items ≡ s.committers (entries log.now)) }
 {
     let mut committers = Vec::with_capacity(alloc, log.commits() as usize)?;
     for before in 0..log.commits() {
@@ -72,7 +75,7 @@ fn committers(alloc: Global, log: &Log) -> Result<Vec<u32>, NoMemory>
 
 /// The transactions that committed, in the order of their numbers.
 fn by_number(alloc: Global, log: &Log) -> Result<Vec<u32>, NoMemory>
-    ensures { IfOk result (λ own. own.items ≡ s.by_number (entries log.now)) }
+    ensures { IfOk result (λ found. found.items ≡ s.by_number (entries log.now)) }
 {
     let mut numbers = Vec::with_capacity(alloc, log.commits() as usize)?;
     for before in 0..log.transactions() {
@@ -83,17 +86,51 @@ fn by_number(alloc: Global, log: &Log) -> Result<Vec<u32>, NoMemory>
     Ok(numbers)
 }
 
-/// Stops where a transaction does not run over the row versions.
+/// Whether a statement may pass a limit.
+fn may_stop(stmt: &Stmt) -> bool
+    ensures { result ≡ c.may_stop (statement_view stmt.now) }
+{
+    match stmt {
+        Stmt::Insert { .. } | Stmt::InsertSelect { .. } => true,
+        _ => false,
+    }
+}
+
+/// Whether the statement of a number may pass a limit; false if there is none.
+fn may_stop_at(log: &Log, t: u32, k: u32) -> bool
+    ensures { result ≡ c.may_stop_at t k (entries log.now) }
+{
+    match log.statement(t, k) {
+        Some(stmt) => may_stop(stmt),
+        None => false,
+    }
+}
+
+/// The number of the last statement of a transaction that may pass a limit; 0 if none may.
+fn last_stopping(log: &Log, t: u32) -> u32
+    ensures within { result ≤ statement_count t (entries log.now) }
+    ensures last { c.NoneStops t result (statement_count t (entries log.now)) (entries log.now) }
+{
+    let count = log.statement_count(t);
+    for before in 0..count {
+        if may_stop_at(log, t, count - before) {
+            return count - before;
+        }
+    }
+    0
+}
+
+/// Stops where a transaction does not run over the row versions. It runs up to its last INSERT: no other statement stops.
 fn check_run(alloc: Global, log: &Log, versions: &[VersionTable], t: u32) -> Result<(), SerialStop>
     requires rules { IsSerializable log.now versions.now }
     requires known { is_known t (entries log.now) ≡ true }
     ensures { c.ChecksRun (entries log.now) (spans_of versions.now) t result }
 {
-    let count = log.statement_count(t);
-    if count == 0 {
+    let last = last_stopping(log, t);
+    if last == 0 {
         return Ok(());
     }
-    let _last = shown(alloc, log, versions, t, count)?;
+    let _last = shown(alloc, log, versions, t, last)?;
     Ok(())
 }
 
@@ -232,8 +269,8 @@ fn does_same(
     ensures { c.ComparesTransaction (entries log.now) (spans_of versions.now) (entries other.now) (spans_of made.now) t result }
 {
     for before in 0..log.statement_count(t) {
-        let rows = shown(alloc, log, versions, t, before + 1)?;
-        let others = shown(alloc, other, made, t, before + 1)?;
+        let rows = done(alloc, log, versions, t, before + 1)?;
+        let others = done(alloc, other, made, t, before + 1)?;
         if !is_same(&rows, &others) {
             return Ok(false);
         }

@@ -3,4 +3,4 @@ use Rattle.gp_serial.proofs.running.unmarked.Given as goal
 
 -- the first cells are copied
 abbrev pub invariant-loop-i : goal.invariant-loop-i
-invariant-loop-i l = l.own ≡ take l.i l.row
+invariant-loop-i l = l.copy ≡ take l.i l.row

@@ -1,11 +1,25 @@
-use Rattle.std.proofs.Common.{◌∙◌, arith, sym}
+use Rattle.std.proofs.Common.{◌+◌, ◌∙◌, arith, sym}
 use Rattle.std.proofs.lemmas.Result.{err_from_is_err_and}
+use Rattle.gp_base.specs.Annotated.{unannotated}
 use Rattle.gp_log.specs.Contents.{entries}
 use Rattle.gp_machine.specs.Entries.{statement_count}
+use Rattle.gp_machine.specs.HistorySpans.{as_of}
 use Rattle.gp_reenact.specs.Reenacting.{spans_of}
 use Rattle.gp_serial.specs.Comparing.{next_does_same}
 use Rattle.gp_serial.proofs.ComparingLemmas.{fails_first, no_refusal, stop_compares, told_same}
+use Rattle.gp_serial.proofs.RunningLemmas.{stops_later}
 use Rattle.gp_serial.proofs.serializing.does_same.Goals as goal
+
+pub done-requires-clause-runs : goal.done-requires-clause-runs
+done-requires-clause-runs c =
+    let log = entries c.args.log.now in
+    stops_later log c.args.t (statement_count c.args.t log) (c.loop-before.before + 1) (as_of unannotated (spans_of c.args.versions.now)) (omega (arith, c.loop-before-test.true, c.statement_count-before-end.ensures)) c.requires.unstopped
+
+pub done-requires-in-loop-before-clause-runs : goal.done-requires-in-loop-before-clause-runs
+done-requires-in-loop-before-clause-runs c =
+    let log = entries c.args.log.now in
+    stops_later (entries c.args.other.now) c.args.t (statement_count c.args.t log) (c.loop-before.before + 1) (as_of unannotated (spans_of c.args.made.now))
+    (omega (arith, c.loop-before-test.true, c.statement_count-before-end.ensures)) c.requires.unstopped_other
 
 pub returns-in_err-rows : goal.returns-in_err-rows
 returns-in_err-rows c =
