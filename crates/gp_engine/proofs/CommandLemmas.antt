@@ -3,8 +3,6 @@ use Rattle.std.proofs.Common.{◌≡◌, true, refl}
 use Rattle.gp_grammar.specs.Syntax as y
 use Rattle.gp_grammar.specs.Syntax.{is_statement}
 use Rattle.gp_machine.specs.ActionForms.{Run, action_of}
-use Rattle.gp_syntax.specs.declared.command.Command.{Command}
-use Rattle.gp_syntax.specs.declared.command.Command.TheVariants as c
 
 -- a statement runs
 pub statement-runs : (command : y.Command) → is_statement command ≡ true → action_of command ≡ Run command

@@ -1,6 +1,6 @@
 -- What the code tells of a statement, and of results.
 use Rattle.std.proofs.Common.{◌≡◌, List, refl}
-use Rattle.std.specs.Prelude.{Result, Ok, Err, IfErr, IfOk}
+use Rattle.std.specs.Prelude.{Result, Ok, Err, IfErr, IfOk, OnErr}
 use Rattle.gp_algebra.specs.Views.{statement_view}
 use Rattle.gp_algebra.specs.declared.statement.Select as code
 use Rattle.gp_algebra.specs.declared.statement.Stmt.{Stmt}
@@ -25,3 +25,8 @@ ok-map P Q (Err e) f p = p
 pub err-map : {A E : Type 0} (P Q : E → Type 0) (result : Result A E) → ((e : E) → P e → Q e) → IfErr result P → IfErr result Q
 err-map P Q (Ok a) f p = p
 err-map P Q (Err e) f p = f e p
+
+-- what holds in any case
+pub on-err : {A E : Type 0} (P : Type 0) (result : Result A E) → P → OnErr result P
+on-err P (Ok a) p = tt
+on-err P (Err e) p = p

@@ -1,9 +1,9 @@
 -- Every line keeps what the engine's invariant says.
 use Rattle.std.proofs.Common.{◌≡◌, ◌≢◌, ℕ, zero, suc, pred, ◌+◌, ◌-◌, ◌^◌, ◌<◌, ◌≤◌, Bool, true, false, cond, List, [], ◌∷◌, ◌++◌, length, Option, Some, None, get_or, refl, ap, sym, ◌∙◌, subst, arith, inl, inr, ◌⊎◌}
-use Rattle.std.specs.Prelude.{if◌then◌else◌, nat_le, slice_set, IsSome, Result, Ok, Err}
+use Rattle.std.specs.Prelude.{if◌then◌else◌, nat_le, slice_set, Result, Ok, Err}
 use Rattle.std.specs.List.{AllByRecursion}
-use Rattle.std.proofs.lemmas.Bool.{cases_eq, eq-eqb, false≢true, leb-false, ne_eqb}
-use Rattle.std.proofs.lemmas.List.{get_or-set_other, get_or-set_same, length-set, length_push}
+use Rattle.std.proofs.lemmas.Bool.{cases_eq, eq-eqb, leb-false, ne_eqb}
+use Rattle.std.proofs.lemmas.List.{get_or_read_under, get_or-set_other, get_or-set_same, length-set, length_push}
 use Rattle.std.proofs.Math.ListN.{get_or-eq_default}
 use Rattle.gp_base.specs.declared.catalog.TheConstants.{MAX_TABLES}
 use Rattle.gp_base.specs.declared.refusal.Refusal.{Refusal}
@@ -65,6 +65,13 @@ session-put sessions place put within (suc other) running at =
 pub within-sessions : (engine : Engine) (place : ℕ) → IsEngine engine → place < 64 → place < length engine.sessions
 within-sessions engine place kept within = subst (λ n. place < n) (sym kept.places) within
 
+-- the transaction that a look at a place has found, in the parts of an engine
+pub looked : (engine inside : Engine) (place : ℕ) (found session : Option Running) → IsEngine engine → place < 64 → inside ≡ engine → found ≡ get_or inside.sessions place found
+    → get_or inside.sessions place found ≡ session → get_or engine.sessions place None ≡ session
+looked engine inside place found session sound within view is at =
+    subst (λ (e : Engine). place < length e.sessions → get_or e.sessions place None ≡ session) view
+    (λ low. sym (get_or_read_under inside.sessions place (length inside.sessions) found None is low refl) ∙ is ∙ at) (within-sessions engine place sound within)
+
 -- ---- what the log has room for
 
 -- the log has as many entries as there are tables, begins, statements and ends
@@ -90,13 +97,6 @@ pub has-place : (engine : Engine) (place : ℕ) (running : Running) → IsEngine
 has-place engine place running kept at =
     let unended = kept.unended in
     record { few = few-entries engine kept; unended = omega (arith, unended, count-cleared engine.sessions place running at) }
-
-pub has-place-some : (engine : Engine) (place : ℕ) → IsEngine engine → IsSome (get_or engine.sessions place None) → HasPlace engine.log
-has-place-some engine place kept there = by (get_or engine.sessions place None) refl there
-  where
-    by : (found : Option Running) → get_or engine.sessions place None ≡ found → IsSome found → HasPlace engine.log
-    by None at there = absurd (false≢true there)
-    by (Some running) at there = has-place engine place running kept at
 
 -- ---- the same facts of other parts
 

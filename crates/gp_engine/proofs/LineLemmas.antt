@@ -1,9 +1,11 @@
 -- A line that is not recorded changes nothing.
 use Rattle.std.proofs.Common.{◌≡◌, ℕ, suc, ◌<◌, Bool, true, false, Option, Some, None, Result, Ok, Err, length, get_or, refl, sym, ap, ◌∙◌, subst}
-use Rattle.std.specs.Prelude.{nat_le, IfOk, IsSome, OnErr}
+use Rattle.std.specs.Prelude.{nat_le, slice_set, IfOk, OnErr}
+use Rattle.std.specs.Option.{is_some}
 use Rattle.std.proofs.lemmas.Bool.{false≢true}
+use Rattle.std.proofs.lemmas.List.{set-get_or}
 use Rattle.gp_base.specs.declared.refusal.Refusal.{Refusal}
-use Rattle.gp_base.specs.declared.refusal.Refusal.TheVariants.{E11}
+use Rattle.gp_base.specs.declared.refusal.Refusal.TheVariants.{E09, E11}
 use Rattle.gp_base.specs.declared.table.Table.{Table}
 use Rattle.gp_base.specs.Annotated.{Database, unannotated}
 use Rattle.gp_algebra.specs.Statements.{Statement, insert, insert_select, update, delete, read}
@@ -17,10 +19,10 @@ use Rattle.gp_machine.specs.Entries.{committer_of}
 use Rattle.gp_machine.specs.Event.{creation_refusal, count_refusal, name_at, reply_of}
 use Rattle.gp_machine.specs.Recorded.{is_recorded}
 use Rattle.gp_engine.specs.declared.running.Running.{Running}
-use Rattle.gp_engine.specs.Engine.{Engine, Follows, IsEngine, IsUnchanged, entries_of, newest_of, statements_of, tables_of, transactions_of}
+use Rattle.gp_engine.specs.Engine.{Engine, Follows, IsEngine, IsUnchanged, entries_of, newest_of, spans_of, statements_of, tables_of, transactions_of}
 use Rattle.gp_log.specs.declared.limit.TheConstants.{MAX_TRANSACTIONS}
 use Rattle.gp_log.specs.Parameters.{parameters}
-use Rattle.gp_engine.specs.Methods.{Begins, Commits, Creates, DoesAt, Outside, Runs, RunsAs, RunsChecked, loses, meaning_of, overflows, publishes, refusal_at}
+use Rattle.gp_engine.specs.Methods.{Begins, Commits, Creates, DoesAt, Refuses, RunsAs, RunsChecked, loses, meaning_of, overflows, publishes, refusal_at}
 use Rattle.gp_engine.proofs.CommandLemmas.{statement-runs}
 use Rattle.gp_engine.proofs.FollowLemmas.{follows_at}
 use Rattle.gp_base.specs.declared.error.NoMemory.{NoMemory}
@@ -34,15 +36,58 @@ follows_line old new answer line place command sound within does = record {
   state = λ state engine. (follows_at old new answer state engine sound line place (within-sessions old place sound within) command does).0;
 }
 
--- a statement in a session with a transaction
-pub runs-does : (old new : Engine) (answer : Reply) (line place : ℕ) (command : Command) → IsSome (get_or old.sessions place None) → is_statement command ≡ true
-    → ((running : Running) → get_or old.sessions place None ≡ Some running → Runs old new answer line place running command)
-    → DoesAt old new answer line place (get_or old.sessions place None) (action_of command)
-runs-does old new answer line place command there statement runs = by (get_or old.sessions place None) refl there
-  where
-    by : (found : Option Running) → get_or old.sessions place None ≡ found → IsSome found → DoesAt old new answer line place found (action_of command)
-    by None at there = absurd (false≢true there)
-    by (Some running) at there = subst (DoesAt old new answer line place (Some running)) (sym (statement-runs command statement)) (runs running at)
+-- ---- what a line does, by what was found of its session
+
+pub unchanged_same : (engine : Engine) → IsUnchanged engine engine
+unchanged_same engine = record { entries = refl; sessions = refl; spans = λ place. refl; tables = refl }
+
+-- a place that was lent, and has what it had
+pub lent-same : (engine inside : Engine) (place : ℕ) (found : Option Running) → inside ≡ engine
+    → IsUnchanged engine (record { log = inside.log; versions = inside.versions; sessions = slice_set inside.sessions place (get_or inside.sessions place found) })
+lent-same engine inside place found view = record {
+  entries = ap (λ (e : Engine). e.log.entries) view;
+  sessions = set-get_or inside.sessions place found ∙ ap (λ (e : Engine). e.sessions) view;
+  spans = λ table. ap (λ (e : Engine). spans_of e.versions table) view;
+  tables = ap (λ (e : Engine). length e.versions) view;
+}
+
+none-there : (found : Option Running) → is_some found ≡ false → found ≡ None
+none-there None is = refl
+none-there (Some running) is = absurd (false≢true (sym is))
+
+module _ (old new : Engine) (answer : Reply) (line place : ℕ) (found : Option Running) (at : get_or old.sessions place None ≡ found) where
+  pub does-found : (action : Action) → DoesAt old new answer line place found action → DoesAt old new answer line place (get_or old.sessions place None) action
+  does-found action does = subst (λ (session : Option Running). DoesAt old new answer line place session action) (sym at) does
+
+  -- a session with a transaction creates no table, and begins no other
+  pub created-inside : (table : Table) → is_some found ≡ true → Refuses old new answer E09 → DoesAt old new answer line place (get_or old.sessions place None) (Create table)
+  created-inside table some refuses = does-found (Create table) (by found some)
+    where
+      by : (session : Option Running) → is_some session ≡ true → DoesAt old new answer line place session (Create table)
+      by None is = absurd (false≢true is)
+      by (Some running) is = refuses
+
+  pub begun-inside : (kind : Bool) → is_some found ≡ true → Refuses old new answer E09 → DoesAt old new answer line place (get_or old.sessions place None) (Begin kind)
+  begun-inside kind some refuses = does-found (Begin kind) (by found some)
+    where
+      by : (session : Option Running) → is_some session ≡ true → DoesAt old new answer line place session (Begin kind)
+      by None is = absurd (false≢true is)
+      by (Some running) is = refuses
+
+  pub created-outside : (table : Table) (refusal : Option Refusal) → is_some found ≡ false → refusal ≡ creation_refusal parameters (tables_of old) table
+      → Creates old new answer line (suc place) table refusal → DoesAt old new answer line place (get_or old.sessions place None) (Create table)
+  created-outside table refusal none is creates =
+      does-found (Create table) (subst (λ (session : Option Running). DoesAt old new answer line place session (Create table)) (sym (none-there found none)) (subst (Creates old new answer line (suc place) table) is creates))
+
+  pub begun-outside : (kind full : Bool) → is_some found ≡ false → nat_le MAX_TRANSACTIONS (transactions_of old) ≡ full
+      → Begins old new answer line place kind full → DoesAt old new answer line place (get_or old.sessions place None) (Begin kind)
+  begun-outside kind full none is begins =
+      does-found (Begin kind) (subst (λ (session : Option Running). DoesAt old new answer line place session (Begin kind)) (sym (none-there found none)) (subst (Begins old new answer line place kind) (sym is) begins))
+
+-- a statement
+pub statement-does : (old new : Engine) (answer : Reply) (line place : ℕ) (found : Option Running) (command : Command) → is_statement command ≡ true → DoesAt old new answer line place found (Run command)
+    → DoesAt old new answer line place found (action_of command)
+statement-does old new answer line place found command statement does = subst (DoesAt old new answer line place found) (sym (statement-runs command statement)) does
 
 -- ---- lines that are not recorded
 
@@ -66,7 +111,7 @@ module _ (old new : Engine) (answer : Reply) (line place : ℕ) where
   begins-unchanged kind true r denied = r.0
   begins-unchanged kind false r denied = recorded answer (reply.Began (suc (transactions_of old)) (newest_of old)) (is_recorded (Begin kind)) r.says refl denied
 
-  outside-unchanged : (action : Action) → Outside old new answer line place action → is_recorded action answer ≡ false → IsUnchanged old new
+  outside-unchanged : (action : Action) → DoesAt old new answer line place None action → is_recorded action answer ≡ false → IsUnchanged old new
   outside-unchanged (Create table) does denied = creates-unchanged table (creation_refusal parameters (tables_of old) table) does denied
   outside-unchanged (Begin kind) does denied = begins-unchanged kind (nat_le MAX_TRANSACTIONS (transactions_of old)) does denied
   outside-unchanged Commit does denied = does.0

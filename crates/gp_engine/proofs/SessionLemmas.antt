@@ -1,20 +1,8 @@
 -- The transactions of the sessions.
-use Rattle.std.proofs.Common.{◌≡◌, ℕ, zero, suc, ◌<◌, List, [], ◌∷◌, length, Option, Some, None, get_or, refl, sym, ◌∙◌, ap, arith}
-use Rattle.std.specs.Prelude.{slice_set, IsSome}
+use Rattle.std.proofs.Common.{◌≡◌, ℕ, zero, suc, ◌<◌, List, [], ◌∷◌, length, Option, Some, None, get_or, refl, ap, arith}
+use Rattle.std.specs.Prelude.{slice_set}
 use Rattle.gp_engine.specs.Engine.{count_running}
 use Rattle.gp_engine.specs.declared.running.Running.{Running}
-
-pub session-there : (sessions : List (Option Running)) (place : ℕ) (found : Option Running) (running : Running) → place < length sessions
-    → found ≡ get_or sessions place found → found ≡ Some running → get_or sessions place None ≡ Some running
-session-there [] place found running within is some = absurd (omega (arith, within))
-session-there (session ∷ sessions) zero found running within is some = sym is ∙ some
-session-there (session ∷ sessions) (suc place) found running within is some = session-there sessions place found running (omega (arith, within)) is some
-
--- a test of the place has found a transaction
-pub some-there : (sessions : List (Option Running)) (place : ℕ) (found : Option Running) → place < length sessions → IsSome (get_or sessions place found) → IsSome (get_or sessions place None)
-some-there [] place found within some = absurd (omega (arith, within))
-some-there (session ∷ sessions) zero found within some = some
-some-there (session ∷ sessions) (suc place) found within some = some-there sessions place found (omega (arith, within)) some
 
 -- ---- how many sessions have a transaction
 

@@ -10,6 +10,7 @@ use Rattle.gp_base.specs.IdentityParts.{identity_transaction}
 use Rattle.gp_algebra.specs.Effects.{step, wrote}
 use Rattle.gp_algebra.specs.Statements as s
 use Rattle.gp_algebra.specs.Statements.{Statement}
+use Rattle.gp_algebra.specs.Views.{statement_view}
 use Rattle.gp_versions.specs.Spans.{Versions}
 use Rattle.gp_txn.specs.declared.error.CommitStop.{CommitStop}
 use Rattle.gp_txn.specs.declared.error.CommitStop.TheVariants as stop
@@ -25,18 +26,20 @@ use Rattle.gp_machine.specs.declared.reply.Reply.TheVariants as reply
 use Rattle.gp_machine.specs.Actions as allow
 use Rattle.gp_machine.specs.Actions.{Allowed}
 use Rattle.gp_machine.specs.ActionForms.{Action, allowed_to}
-use Rattle.gp_machine.specs.Entries.{Entry, RolledBack, Lost, Created, Began, Ran, Committed, Ended, committer_of, statement_count}
+use Rattle.gp_machine.specs.Entries.{Entry, RolledBack, Lost, Created, Began, Ran, Committed, Ended, committer_of, statements_in, versions_in}
 use Rattle.gp_machine.specs.Event.{count_refusal, creation_refusal, name_at, refusal_of, reply_of, target_of}
 use Rattle.gp_grammar.specs.Syntax.{Command}
 use Rattle.gp_check.specs.Checking.{checked}
 use Rattle.gp_log.specs.declared.limit.TheConstants.{MAX_TRANSACTIONS}
 use Rattle.gp_log.specs.Parameters.{parameters}
 use Rattle.gp_log.specs.LogCounts.{open_in}
+use Rattle.gp_log.specs.LogFacts.{tables_in}
 use Rattle.gp_log.specs.Logs.{Logged, log_view}
+use Rattle.gp_engine.specs.declared.running.Unlogged.{Unlogged}
 use Rattle.gp_engine.specs.declared.running.Running.{Running}
 use Rattle.gp_base.specs.declared.stop.Stop.{Stop}
 use Rattle.gp_base.specs.declared.stop.Stop.TheVariants as run
-use Rattle.gp_engine.specs.Engine.{Engine, IsUnchanged, entries_of, newest_of, statements_of, tables_of, transactions_of}
+use Rattle.gp_engine.specs.Engine.{Engine, IsUnchanged, entries_of, newest_of, tables_of, transactions_of}
 
 -- ---- a statement of a running transaction
 
@@ -93,6 +96,26 @@ abbrev pub meaning_of : Option Refusal → Result Statement Refusal → Result S
 meaning_of (Some refusal) checked = Err refusal
 meaning_of None checked = checked
 
+-- what refuses a statement that means this
+abbrev pub refused_as : List Table → List Versions → ℕ → Running → Result Statement Refusal → Option Refusal
+refused_as tables versions newest old (Err refusal) = Some refusal
+refused_as tables versions newest old (Ok statement) = refusal_in tables versions newest old statement
+
+module _ (entries : List Entry) (versions : List Versions) (old : Running) (command : Command) where
+  -- what a statement of a transaction is
+  abbrev pub meaning_in : Result Statement Refusal
+  meaning_in = meaning_of (count_refusal parameters old.statements (statements_in entries)) (checked (tables_in entries) command)
+
+  abbrev pub refused_by : Option Refusal
+  refused_by = refused_as (tables_in entries) versions (versions_in entries) old meaning_in
+
+  -- it has run, and is not in the log yet
+  pub record RunsTo (new : Running) (ran : Unlogged) : Type 0 where
+    pub t : ran.t ≡ old.active.t
+    pub k : ran.k ≡ suc old.statements
+    pub means : meaning_in ≡ Ok (statement_view ran.stmt.value)
+    pub accepts : Accepts (tables_in entries) versions (versions_in entries) old new ran.reply (statement_view ran.stmt.value)
+
 -- the log has these entries, and beside it are these row versions and these sessions
 pub record Keeps (engine : Engine) (entries : List Entry) (held : List Versions) (running : List (Option Running)) : Type 0 where
   pub log_is : entries_of engine ≡ entries
@@ -103,20 +126,10 @@ pub record Keeps (engine : Engine) (entries : List Entry) (held : List Versions)
 abbrev pub running_at : Engine → ℕ → Option Running
 running_at engine place = slice_index_or engine.sessions place None
 
--- what holds of it
-abbrev pub IfRuns : Engine → ℕ → (Running → Type 0) → Type 0
-IfRuns engine place P = (running : Running) → running_at engine place ≡ Some running → P running
-
 -- a transaction that runs can end: the log keeps memory for that
 pub record HasPlace (log : Logged) : Type 0 where
   pub few : length log.entries < 2 ^ 32 - 1
   pub unended : 0 < open_in (log_view log.entries)
-
--- the transaction of the session at a place has one statement more than the log has of it
-pub record HasRun (engine : Engine) (place : ℕ) : Type 0 where
-  pub running : Running
-  pub at : running_at engine place ≡ Some running
-  pub count : running.statements ≡ suc (statement_count running.active.t (entries_of engine))
 
 -- a conflict is in one of so many tables
 abbrev pub IsConflictIn : ℕ → CommitStop → Type 0
@@ -177,15 +190,7 @@ module _ (old new : Engine) (answer : Reply) where
   Stops line place t stop.Full = Refuses (E14 limit.Versions)
   Stops line place t stop.NoMemory = ⊥
 
-  -- a statement that passes no limit, which is not in the log yet
-  pub record AcceptsAt (place : ℕ) (running : Running) (statement : Statement) : Type 0 where
-    pub after : Running
-    pub accepts : Accepts (tables_of old) old.versions (newest_of old) running after answer statement
-    pub entries : new.log.entries ≡ old.log.entries
-    pub versions : new.versions ≡ old.versions
-    pub sessions : new.sessions ≡ slice_set old.sessions place (Some after)
-
-  -- one that is in the log
+  -- a statement that passes no limit, and is in the log
   pub record Records (line place : ℕ) (running : Running) (command : Command) (statement : Statement) : Type 0 where
     pub after : Running
     pub accepts : Accepts (tables_of old) old.versions (newest_of old) running after answer statement
@@ -203,7 +208,7 @@ module _ (old new : Engine) (answer : Reply) where
 
     -- a statement, by the counts and by the check
     abbrev pub Runs : Type 0
-    Runs = RunsAs (meaning_of (count_refusal parameters running.statements (statements_of old)) (checked (tables_of old) command))
+    Runs = RunsAs (meaning_in (entries_of old) old.versions running command)
 
   -- COMMIT: it is lost by a conflict, or refused as the row versions would be too many, or makes the next version
   pub data Commits (line place : ℕ) (running : Running) : Type 0 where
@@ -232,9 +237,3 @@ module _ (old new : Engine) (answer : Reply) where
   -- an action in a session with this transaction, or without one
   abbrev pub DoesAt : ℕ → ℕ → Option Running → Action → Type 0
   DoesAt line place running action = Does line place (allowed_to running action)
-
-  abbrev pub Outside : ℕ → ℕ → Action → Type 0
-  Outside line place action = DoesAt line place None action
-
-  abbrev pub Inside : ℕ → ℕ → Running → Action → Type 0
-  Inside line place running action = DoesAt line place (Some running) action

@@ -1,55 +1,21 @@
 //! The end of a transaction.
 
-ghost use Rattle.std.specs.Prelude.{◌≡◌, ℕ, ◌<◌, ◌≤◌, suc, true, IfErr, IfOk, OnErr, OnOk, Some, length, None};
-ghost use Rattle.gp_txn.specs.Committing as txn;
-ghost use Rattle.gp_txn.specs.Committing.{AreRefused, HaveSameSpans};
-ghost use Rattle.gp_base.specs.declared.catalog.TheConstants.{MAX_TABLES};
+ghost use Rattle.std.specs.Prelude.{◌≡◌, ◌<◌, suc, true, IfOk, OnErr, OnOk, length};
 ghost use Rattle.gp_log.specs.Kinds.{ends};
 ghost use Rattle.gp_log.specs.Logs.{what_view};
-ghost use Rattle.gp_machine.specs.Entries.{RolledBack, Lost, Ended, committer_of};
+ghost use Rattle.gp_machine.specs.ActionForms.{Commit, Rollback};
+ghost use Rattle.gp_machine.specs.Entries.{Lost, Ended, committer_of};
 ghost use Rattle.gp_machine.specs.Event.{name_at};
-ghost use Rattle.gp_txn.specs.Transactions.{HoldsOthers, HoldsOwn, table_at};
-ghost use Rattle.gp_versions.specs.Commits.{AreBelow};
 ghost use Rattle.gp_engine.specs.Engine.{IsEngine, IsUnchanged, entries_of, tables_of};
-ghost use Rattle.gp_engine.specs.Methods.{Clears, Commits, HasPlace, IsConflictIn, Stops, IfRuns};
+ghost use Rattle.gp_engine.specs.Methods.{Clears, DoesAt, HasPlace, IsConflictIn, Stops, running_at};
 
-use crate::running::Running;
 use crate::state::State;
 use gp_base::{Limit, NoMemory, Refusal, RowId};
 use gp_log::What;
 use gp_machine::Reply;
 use gp_txn::CommitStop;
-use gp_versions::VersionTable;
-use std::mem;
-
-/// Makes a version of the writes of a transaction.
-fn commit(running: &Running, versions: &mut [VersionTable], version: u32) -> Result<(), CommitStop>
-    requires few { length versions.old ≤ MAX_TABLES }
-    requires first { 1 ≤ version }
-    requires above { (table : ℕ) → AreBelow version (table_at table versions.old).spans }
-    requires others { HoldsOthers running.now.active.t versions.old }
-    ensures ok { OnOk result (txn.Commits version running.now.active versions.old versions.new) }
-    ensures cause { IfErr result (λ stop.
-        AreRefused stop running.now.active.tables versions.old) }
-    ensures bounds { IfErr result (IsConflictIn (length versions.old)) }
-    ensures unchanged { OnErr result (HaveSameSpans versions.old versions.new) }
-{
-    running.active.commit(versions, version)
-}
 
 impl State {
-    /// The number of the transaction at a place, or 0 if there is none.
-    pub fn number(&self, place: usize) -> u32
-        requires { place < 64 }
-        ensures number { IfRuns self.now place (λ running. result ≡ running.active.t) }
-        ensures own { IfRuns self.now place (λ running. HoldsOwn running.active) }
-    {
-        match &self.sessions[place] {
-            Some(running) => running.active.t(),
-            None => 0,
-        }
-    }
-
     /// Ends the transaction at a place. The log has a place for that, so memory does not run out.
     fn end(&mut self, line: u32, place: usize, t: u32, what: What)
         requires place { place < 64 }
@@ -64,18 +30,20 @@ impl State {
         self.sessions[place] = None;
     }
 
-    /// ROLLBACK: the writes of the transaction are gone.
+    /// ROLLBACK in the session at a place: the writes of its transaction are gone.
     pub fn roll_back(&mut self, line: u32, place: usize) -> Reply
         requires place { place < 64 }
-        requires room { HasPlace self.old.log }
-        ensures ended { IfRuns self.old place (λ running. Clears self.old self.new place
-            (Ended line (suc place) RolledBack running.active.t)) }
-        ensures reply { IfRuns self.old place (λ running. result
-            ≡ Reply.RolledBack running.active.t) }
+        requires engine { IsEngine self.old }
+        ensures { DoesAt self.old self.new result line place (running_at self.old place) Rollback }
     {
-        let t = self.number(place);
-        self.end(line, place, t, What::Rollback);
-        Reply::RolledBack { t }
+        match &self.sessions[place] {
+            Some(running) => {
+                let t = running.active.t();
+                self.end(line, place, t, What::Rollback);
+                Reply::RolledBack { t }
+            }
+            None => Reply::Refused(Refusal::E10),
+        }
     }
 
     /// The refusal of a commit that is lost to a version.
@@ -117,34 +85,6 @@ impl State {
         Ok(Reply::Refused(refusal))
     }
 
-    /// Makes a version of the writes of the transaction at a place.
-    fn publish(&mut self, place: usize, version: u32) -> Result<(), CommitStop>
-        requires place { place < 64 }
-        requires few { length self.old.versions ≤ MAX_TABLES }
-        requires first { 1 ≤ version }
-        requires above { (table : ℕ) → AreBelow version (table_at table self.old.versions).spans }
-        requires others { IfRuns self.old place
-            (λ running. HoldsOthers running.active.t self.old.versions) }
-        ensures ok { OnOk result (IfRuns self.old place
-            (λ running. txn.Commits version running.active self.old.versions self.new.versions)) }
-        ensures cause { IfErr result (λ stop. IfRuns self.old place
-            (λ running. AreRefused stop running.active.tables self.old.versions)) }
-        ensures bounds { IfErr result (IsConflictIn (length self.old.versions)) }
-        ensures unchanged { OnErr result (IsUnchanged self.old self.new) }
-        ensures log { self.new.log ≡ self.old.log }
-        ensures sessions { self.new.sessions ≡ self.old.sessions }
-        ensures count { length self.new.versions ≡ length self.old.versions }
-    {
-        // A session and the versions cannot be lent at once out of `self`.
-        let mut versions = mem::replace(&mut self.versions, Vec::new(self.alloc));
-        let result = match &self.sessions[place] {
-            Some(running) => commit(running, &mut versions, version),
-            None => Err(CommitStop::NoMemory),
-        };
-        self.versions = versions;
-        result
-    }
-
     /// Refuses a commit that was stopped, or ends its transaction.
     fn stop(&mut self, line: u32, place: usize, t: u32, stop: CommitStop) -> Result<Reply, NoMemory>
         requires place { place < 64 }
@@ -164,24 +104,29 @@ impl State {
         }
     }
 
-    /// COMMIT: makes the next version, unless a later commit wrote a row of the transaction, or the row versions would be too
-    /// many. A commit that is lost ends its transaction too.
+    /// COMMIT in the session at a place: makes the next version, unless a later commit wrote a row of the transaction, or the row
+    /// versions would be too many. A commit that is lost ends its transaction too.
     pub fn commit(&mut self, line: u32, place: usize) -> Result<Reply, NoMemory>
         requires place { place < 64 }
         requires engine { IsEngine self.old }
-        requires room { HasPlace self.old.log }
-        ensures ok { IfOk result (λ reply. IfRuns self.old place
-            (λ running. Commits self.old self.new reply line place running)) }
+        ensures ok { IfOk result (λ reply.
+            DoesAt self.old self.new reply line place (running_at self.old place) Commit) }
         ensures err { OnErr result (IsUnchanged self.old self.new) }
     {
         let version = self.log.commits() + 1;
-        let t = self.number(place);
-        match self.publish(place, version) {
-            Ok(()) => {
-                self.end(line, place, t, What::Commit);
-                Ok(Reply::Committed { t, version })
+        // Lent as `&mut` though it is only read: so the versions can be lent beside it.
+        match &mut self.sessions[place] {
+            Some(running) => {
+                let t = running.active.t();
+                match running.active.commit(&mut self.versions, version) {
+                    Ok(()) => {
+                        self.end(line, place, t, What::Commit);
+                        Ok(Reply::Committed { t, version })
+                    }
+                    Err(stop) => self.stop(line, place, t, stop),
+                }
             }
-            Err(stop) => self.stop(line, place, t, stop),
+            None => Ok(Reply::Refused(Refusal::E10)),
         }
     }
 }

@@ -1,16 +1,16 @@
 //! One line of a session.
 
-ghost use Rattle.std.specs.Prelude.{◌≡◌, ◌<◌, true, false, IfOk, IsOk, OnErr, IsSome};
+ghost use Rattle.std.specs.Prelude.{◌≡◌, ◌<◌, true, false, IfOk, IsOk, OnErr};
 ghost use Rattle.gp_check.specs.Valid.{is_valid};
 ghost use Rattle.gp_grammar.specs.Syntax as y;
 ghost use Rattle.gp_grammar.specs.Syntax.{is_statement};
 ghost use Rattle.gp_machine.specs.ActionForms.{action_of};
 ghost use Rattle.gp_syntax.specs.Views.{command_view};
 ghost use Rattle.gp_engine.specs.Engine.{IsEngine, IsUnchanged};
-ghost use Rattle.gp_engine.specs.Methods.{DoesAt, HasPlace, Inside, Outside, IfRuns, running_at};
+ghost use Rattle.gp_engine.specs.Methods.{DoesAt, running_at};
 
 use crate::state::State;
-use gp_base::{NoMemory, Refusal};
+use gp_base::NoMemory;
 use gp_machine::Reply;
 use gp_syntax::Command;
 use std::rc::Rc;
@@ -27,73 +27,26 @@ fn is_statement(command: &Command) -> bool
 }
 
 impl State {
-    /// A command in a session without a transaction.
-    fn outside(&mut self, line: u32, place: usize, command: &Command) -> Result<Reply, NoMemory>
+    /// A command that is no statement, in the session at a place.
+    fn control(&mut self, line: u32, place: usize, command: &Command) -> Result<Reply, NoMemory>
         requires place { place < 64 }
         requires engine { IsEngine self.old }
-        ensures ok { IfOk result (λ reply.
-            Outside self.old self.new reply line place (action_of (command_view command.now))) }
-        ensures err { OnErr result (self.new ≡ self.old) }
+        requires other { is_statement (command_view command.now) ≡ false }
+        ensures ok { IfOk result (λ reply. DoesAt self.old self.new reply line place
+            (running_at self.old place) (action_of (command_view command.now))) }
+        ensures err { OnErr result (IsUnchanged self.old self.new) }
         ensures rollback { command_view command.now ≡ y.rollback → IsOk result }
     {
         match command {
             Command::Create { table } => self.create(line, place, table),
             Command::Begin { read_committed } => self.begin(line, place, *read_committed),
-            _ => Ok(Reply::Refused(Refusal::E10)),
-        }
-    }
-
-    /// A command that is no statement, in a session with a transaction.
-    fn inside(&mut self, line: u32, place: usize, command: &Command) -> Result<Reply, NoMemory>
-        requires place { place < 64 }
-        requires engine { IsEngine self.old }
-        requires room { HasPlace self.old.log }
-        requires other { is_statement (command_view command.now) ≡ false }
-        ensures ok { IfOk result (λ reply. IfRuns self.old place
-            (λ running. Inside self.old self.new reply line place running
-            (action_of (command_view command.now)))) }
-        ensures err { OnErr result (IsUnchanged self.old self.new) }
-        ensures rollback { command_view command.now ≡ y.rollback → IsOk result }
-    {
-        match command {
-            Command::Create { .. } => Ok(Reply::Refused(Refusal::E09)),
-            Command::Begin { .. } => Ok(Reply::Refused(Refusal::E09)),
             Command::Commit => self.commit(line, place),
             Command::Rollback => Ok(self.roll_back(line, place)),
             _ => unreachable!(),
         }
     }
 
-    /// A command in a session without a transaction, or one that is no statement.
-    fn control(&mut self, line: u32, place: usize, command: &Command) -> Result<Reply, NoMemory>
-        requires place { place < 64 }
-        requires engine { IsEngine self.old }
-        requires other { IsSome (running_at self.old place)
-            → is_statement (command_view command.now) ≡ false }
-        ensures ok { IfOk result (λ reply. DoesAt self.old self.new reply line place
-            (running_at self.old place) (action_of (command_view command.now))) }
-        ensures err { OnErr result (IsUnchanged self.old self.new) }
-        ensures rollback { command_view command.now ≡ y.rollback → IsOk result }
-    {
-        if self.sessions[place].is_some() {
-            self.inside(line, place, command)
-        } else {
-            self.outside(line, place, command)
-        }
-    }
-
-    /// Whether a command is a statement in a session with a transaction.
-    fn runs(&self, place: usize, command: &Command) -> bool
-        requires place { place < 64 }
-        ensures there { result ≡ true → IsSome (running_at self.now place) }
-        ensures statement { result ≡ true → is_statement (command_view command.now) ≡ true }
-        ensures other { result ≡ false → IsSome (running_at self.now place)
-            → is_statement (command_view command.now) ≡ false }
-    {
-        self.sessions[place].is_some() && is_statement(command)
-    }
-
-    /// A command in the session at a place.
+    /// A command in the session at a place. Each kind of line looks the session up, once.
     pub fn line(&mut self, line: u32, place: usize, command: Rc<Command>) -> Result<Reply, NoMemory>
         requires place { place < 64 }
         requires engine { IsEngine self.old }
@@ -103,7 +56,7 @@ impl State {
         ensures err { OnErr result (IsUnchanged self.old self.new) }
         ensures rollback { command_view command.value ≡ y.rollback → IsOk result }
     {
-        if self.runs(place, command.as_ref()) {
+        if is_statement(command.as_ref()) {
             self.statement(line, place, command)
         } else {
             self.control(line, place, command.as_ref())

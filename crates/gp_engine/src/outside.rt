@@ -1,13 +1,13 @@
 //! What a session without a transaction may do.
 
-ghost use Rattle.std.specs.Prelude.{◌≡◌, ◌<◌, ◌-◌, ◌^◌, suc, nat_le, length, IfOk, OnErr};
+ghost use Rattle.std.specs.Prelude.{◌≡◌, ◌<◌, ◌-◌, ◌^◌, suc, length, IfOk, OnErr};
 ghost use Rattle.gp_log.specs.Kinds.{CreatesNew};
 ghost use Rattle.gp_log.specs.Parameters.{parameters};
 ghost use Rattle.gp_log.specs.declared.entry.What.TheVariants as what;
-ghost use Rattle.gp_log.specs.declared.limit.TheConstants.{MAX_TRANSACTIONS};
+ghost use Rattle.gp_machine.specs.ActionForms.{Begin, Create};
 ghost use Rattle.gp_machine.specs.Event.{creation_refusal};
-ghost use Rattle.gp_engine.specs.Engine.{tables_of, transactions_of};
-ghost use Rattle.gp_engine.specs.Methods.{Adds, Begins, Creates};
+ghost use Rattle.gp_engine.specs.Engine.{IsEngine, tables_of};
+ghost use Rattle.gp_engine.specs.Methods.{Adds, DoesAt, running_at};
 
 use crate::running::Running;
 use crate::state::State;
@@ -58,21 +58,25 @@ impl State {
         Ok(Reply::Created { table: number })
     }
 
-    /// CREATE TABLE: one more table, empty in every version.
+    /// CREATE TABLE in the session at a place, outside of transactions: one more table, empty in every version.
     pub fn create(&mut self, line: u32, place: usize, table: &Table) -> Result<Reply, NoMemory>
         requires place { place < 64 }
-        requires few { length self.old.log.entries < 2 ^ 32 - 1 }
-        ensures ok { IfOk result (λ reply. Creates self.old self.new reply line (suc place) table.now
-            (creation_refusal parameters (tables_of self.old) table.now)) }
+        requires engine { IsEngine self.old }
+        ensures ok { IfOk result (λ reply.
+            DoesAt self.old self.new reply line place (running_at self.old place) (Create table.now)) }
         ensures err { OnErr result (self.new ≡ self.old) }
     {
+        if self.sessions[place].is_some() {
+            return Ok(Reply::Refused(Refusal::E09));
+        }
         match self.creation_refusal(table)? {
             Some(refusal) => Ok(Reply::Refused(refusal)),
             None => self.add(line, place, table.clone()?),
         }
     }
 
-    /// BEGIN: the next transaction, of this kind, which begins at the newest version.
+    /// BEGIN in the session at a place, outside of transactions: the next transaction, of this kind, which begins at the newest
+    /// version.
     pub fn begin(
         &mut self,
         line: u32,
@@ -80,11 +84,14 @@ impl State {
         read_committed: bool,
     ) -> Result<Reply, NoMemory>
         requires place { place < 64 }
-        requires few { length self.old.log.entries < 2 ^ 32 - 1 }
-        ensures ok { IfOk result (λ reply. Begins self.old self.new reply line place read_committed
-            (nat_le MAX_TRANSACTIONS (transactions_of self.old))) }
+        requires engine { IsEngine self.old }
+        ensures ok { IfOk result (λ reply. DoesAt self.old self.new reply line place
+            (running_at self.old place) (Begin read_committed)) }
         ensures err { OnErr result (self.new ≡ self.old) }
     {
+        if self.sessions[place].is_some() {
+            return Ok(Reply::Refused(Refusal::E09));
+        }
         let begun = self.log.transactions();
         if begun >= MAX_TRANSACTIONS {
             return Ok(Reply::Refused(Refusal::E14 {

@@ -1,6 +1,6 @@
 //! The transaction of a session.
 
-ghost use Rattle.std.specs.Prelude.{◌≡◌, ◌<◌, ◌≤◌, true, IfErr, IfOk, OnErr, List, Some, length};
+ghost use Rattle.std.specs.Prelude.{◌≡◌, ◌<◌, ◌≤◌, true, IfErr, IfOk, OnErr, OnOk, List, Some, length};
 ghost use Rattle.gp_base.specs.declared.table.Table.{Table};
 ghost use Rattle.gp_base.specs.declared.catalog.TheConstants.{MAX_TABLES};
 ghost use Rattle.gp_algebra.specs.Statements as s;
@@ -15,19 +15,21 @@ ghost use Rattle.gp_syntax.specs.Views.{command_view};
 ghost use Rattle.gp_txn.specs.Applying.{is_applicable, is_readable};
 ghost use Rattle.gp_txn.specs.Transactions.{HoldsOthers};
 ghost use Rattle.gp_log.specs.Parameters.{parameters};
-ghost use Rattle.gp_engine.specs.Methods.{Accepts, StopsBy, meaning_of, refusal_in};
+ghost use Rattle.gp_log.specs.Contents.{entries, tables};
+ghost use Rattle.gp_engine.specs.Methods.{Accepts, RunsTo, StopsBy, meaning_of, refusal_in, refused_by};
 ghost use Rattle.gp_log.specs.declared.limit.TheConstants.{MAX_STATEMENTS, MAX_STEPS};
 
 use gp_algebra::{Select, Stmt};
 use gp_base::{Catalog, Limit, NoMemory, Refusal, Stop};
 use gp_check::check;
 use gp_exec::ChooseStop;
-use gp_log::{MAX_STATEMENTS, MAX_STEPS};
+use gp_log::{Log, MAX_STATEMENTS, MAX_STEPS};
 use gp_machine::Reply;
 use gp_syntax::Command;
-use gp_txn::{Active, StmtStop};
+use gp_txn::{Active, StmtStop, index_for};
 use gp_versions::VersionTable;
 use std::alloc::Global;
+use std::rc::Rc;
 
 /// A running transaction, with the number of its statements so far. A SELECT is counted too, so this may be above the number
 /// of the last statement that wrote.
@@ -37,6 +39,19 @@ pub struct Running {
     pub active: Active,
     /// The number of its statements.
     pub statements: u32,
+}
+
+/// A statement that ran and is not in the log yet.
+#[derive(Drop)]
+pub struct Unlogged {
+    /// Its transaction.
+    pub t: u32,
+    /// Its number in the transaction.
+    pub k: u32,
+    /// The statement as it was checked.
+    pub stmt: Rc<Stmt>,
+    /// The reply.
+    pub reply: Reply,
 }
 
 /// The refusal of one more statement, if its transaction has this many and the script that many.
@@ -178,5 +193,44 @@ impl Running {
             return Err(Stop::Refused(refusal));
         }
         check(alloc, catalog, command)
+    }
+
+    /// Checks one more statement and runs it, once the log has a place for it and an index finds its rows. One that does not run
+    /// changes nothing.
+    pub fn run(
+        &mut self,
+        alloc: Global,
+        log: &mut Log,
+        versions: &mut [VersionTable],
+        command: &Command,
+    ) -> Result<Unlogged, Stop>
+        requires statement { is_statement (command_view command.now) ≡ true }
+        requires valid { is_valid (command_view command.now) ≡ true }
+        requires catalog { tables_are_valid (tables log.old) ≡ true }
+        requires tables { length versions.old ≡ length (tables log.old) }
+        requires few { length versions.old ≤ MAX_TABLES }
+        requires last { self.old.active.last ≤ self.old.statements }
+        requires others { HoldsOthers self.old.active.t versions.old }
+        ensures ran { IfOk result
+            (λ ran. RunsTo (entries log.old) versions.old self.old (command_view command.now) self.new ran) }
+        ensures ready { OnOk result (log.new.ready ≡ true) }
+        ensures stop { IfErr result (λ stop. StopsBy stop
+            (refused_by (entries log.old) versions.old self.old (command_view command.now))) }
+        ensures unchanged { OnErr result (self.new ≡ self.old) }
+        ensures log { log.new.entries ≡ log.old.entries }
+        ensures versions { versions.new ≡ versions.old }
+    {
+        let stmt = self.check(alloc, command, log.statements(), log.catalog())?;
+        let stmt = Rc::new(alloc, stmt)?;
+        log.reserve()?;
+        index_for(stmt.as_ref(), versions)?;
+        let newest = log.commits();
+        let reply = self.apply(stmt.as_ref(), log.catalog(), versions, newest)?;
+        Ok(Unlogged {
+            t: self.active.t(),
+            k: self.statements,
+            stmt,
+            reply,
+        })
     }
 }
