@@ -1,10 +1,6 @@
 -- What every line of a script keeps holds after all of them.
-use Rattle.std.proofs.Common.{◌≡◌, ℕ, zero, List, [], ◌∷◌, ◌++◌, refl, sym, subst}
-use Rattle.gp_base.specs.Annotated.{Annotations}
-use Rattle.gp_machine.specs.Event.{Line, after, line_event}
-use Rattle.gp_machine.specs.Parameters.{Parameters}
-use Rattle.gp_machine.specs.State.{State, start}
-use Rattle.gp_log.specs.ScriptLines.{AreLinesAfter, AreScriptLines, IsLineAfter}
+use Rattle.gp_dump.proofs.Prelude.{◌≡◌, ℕ, zero, List, [], ◌∷◌, ◌++◌, refl, sym, subst, Annotations, Line, after, line_event, Parameters, State, start, AreScriptLines, IsLineAfter}
+use Rattle.gp_log.specs.ScriptLines.{AreLinesAfter}
 
 module _ {M : Type 0} (domain : Annotations M) (parameters : Parameters) where
   after_more : (state : State M) (done : List Line) (line : Line) → after domain parameters state (done ++ line ∷ []) ≡ (line_event domain parameters (after domain parameters state done) line).0

@@ -1,30 +1,16 @@
 -- What the next entry of a log is, by what a line says.
-use Rattle.std.proofs.Common.{◌≡◌, ℕ, zero, suc, ◌+◌, ◌<◌, Bool, true, nat_le, List, [], ◌∷◌, ◌++◌, length, take, Option, Some, None, Result, Ok, Err, if◌then◌else◌, refl, sym, ap, ◌∙◌, arith, true≢false}
-use Rattle.std.specs.Option.{ok_or, option_map}
+use Rattle.gp_dump.proofs.Prelude.{◌≡◌, ℕ, zero, suc, ◌+◌, ◌<◌, Bool, true, nat_le, List, [], ◌∷◌, ◌++◌, length, take, Option, Some, None, Result, Ok, Err, if◌then◌else◌, refl, sym, ap, ◌∙◌, arith, true≢false, ok_or, option_map, eq-eqb, take_all, Refusal, E14, Table, Runs, allowed, What, line_of, Statement, count_refusal, Disorder, command_entry, last_line, statement_entry, transaction_in, tables_in, parameters, entry_view, log_view, what_view, log-pushed}
 use Rattle.std.specs.Prelude.{slice_get}
-use Rattle.std.proofs.lemmas.Bool.{ne_eqb, eq-eqb, lt-leb}
-use Rattle.std.proofs.lemmas.List.{take_all}
+use Rattle.std.proofs.lemmas.Bool.{ne_eqb, lt-leb}
 use Rattle.gp_base.specs.declared.limit.Limit.TheVariants as limit
-use Rattle.gp_base.specs.declared.refusal.Refusal.{Refusal}
-use Rattle.gp_base.specs.declared.refusal.Refusal.TheVariants.{E10, E14}
-use Rattle.gp_base.specs.declared.table.Table.{Table}
+use Rattle.gp_base.specs.declared.refusal.Refusal.TheVariants.{E10}
 use Rattle.gp_grammar.specs.Syntax as y
 use Rattle.gp_grammar.specs.Syntax.{is_statement}
-use Rattle.gp_machine.specs.Actions.{Runs, allowed}
 use Rattle.gp_machine.specs.Entries as m
 use Rattle.gp_log.specs.declared.entry.Entry.{Entry}
-use Rattle.gp_log.specs.declared.entry.What.{What}
-use Rattle.gp_machine.specs.Entries.{line_of}
-use Rattle.gp_algebra.specs.Statements.{Statement}
 use Rattle.gp_check.specs.Checking.{checked}
-use Rattle.gp_machine.specs.Event.{count_refusal}
 use Rattle.gp_log.specs.declared.limit.TheConstants.{MAX_STATEMENTS, MAX_STEPS}
-use Rattle.gp_log.specs.Discipline.{Disorder, command_entry, last_line, statement_entry, transaction_in}
-use Rattle.gp_log.specs.LogFacts.{tables_in}
-use Rattle.gp_log.specs.Parameters.{parameters}
-use Rattle.gp_log.specs.Logs.{entry_view, log_view, what_view}
 use Rattle.gp_log.specs.declared.entry.What.TheVariants as what
-use Rattle.gp_log.proofs.EntryLemmas.{log-pushed}
 use Rattle.gp_dump.specs.Reading.{ended}
 
 -- ---- the transaction of a session

@@ -1,25 +1,11 @@
 -- The verdict holds a dump where all lines keep the rules, and fails where the rules say so, and as the first rule that fails; and only there.
-use Rattle.std.proofs.Common.{◌≡◌, ℕ, zero, suc, ◌+◌, ◌<◌, ◌≤◌, Bool, true, false, cond, ltb, leb, List, [], ◌∷◌, length, reverse, Option, Some, None, Result, Ok, Err, inl, inr, refl, sym, ap, subst, ◌∙◌, arith}
+use Rattle.gp_dump.proofs.Prelude.{◌≡◌, ℕ, zero, suc, ◌+◌, ◌<◌, ◌≤◌, Bool, true, false, cond, ltb, leb, List, [], ◌∷◌, length, reverse, Option, Some, None, Result, Ok, Err, inl, inr, refl, sym, ap, subst, ◌∙◌, arith, bytes_eq, is_utf8, cases_Bool, false≢true, leb-true, lt-ltb, ltb-false, ltb-true, bytes_eq-Decides, Cell, Table, Span, MAX_SPANS, Entry, versions_in, MAX_ENTRIES, Flaw, Said, last_line, next_entry, said_by, tables_in, parameters, LogLine, count_of, header_of, log_line_of, said_of, section_of, span_of, is_said_in, count_text, end_text, entry_text, header, said_text, section_text, span_text, header-takes, count-again, count-takes, log_line-again, log_line-takes, is-said, said-is, said-takes}
 use Rattle.std.specs.Prelude.{◌==◌, slice_get}
-use Rattle.std.specs.Str.{bytes_eq, is_utf8}
-use Rattle.std.proofs.lemmas.Bool.{cases_Bool, false≢true, leb-false, leb-true, lt-ltb, ltb-false, ltb-true, le-ltb}
-use Rattle.std.proofs.lemmas.Slice.Eq.{bytes_eq-Decides}
-use Rattle.gp_base.specs.declared.cell.Cell.{Cell}
-use Rattle.gp_base.specs.declared.table.Table.{Table}
-use Rattle.gp_versions.specs.declared.span.Span.{Span}
-use Rattle.gp_base.specs.declared.limit.TheConstants.{MAX_SPANS}
-use Rattle.gp_machine.specs.Entries.{Entry, versions_in}
-use Rattle.gp_log.specs.declared.limit.TheConstants.{MAX_ENTRIES}
-use Rattle.gp_log.specs.Discipline.{Flaw, Said, last_line, next_entry, said_by}
-use Rattle.gp_log.specs.LogFacts.{tables_in}
-use Rattle.gp_log.specs.Parameters.{parameters}
-use Rattle.gp_dumpline.specs.Forms.{LogLine, count_of, header_of, log_line_of, said_of, section_of, span_of}
+use Rattle.std.proofs.lemmas.Bool.{leb-false, le-ltb}
 use Rattle.gp_dumpline.specs.Rows.{IsRowLine}
-use Rattle.gp_dumpline.specs.Said.{IsSaid, is_said_in}
-use Rattle.gp_dumpline.specs.Texts.{count_text, end_text, entry_text, header, said_text, section_text, span_text}
-use Rattle.gp_dumpline.proofs.HeaderLaws.{header-again, header-takes}
-use Rattle.gp_dumpline.proofs.LogLineLaws.{count-again, count-takes, log_line-again, log_line-takes, section-again, section-takes}
-use Rattle.gp_dumpline.proofs.SaidLaws.{is-said, said-is, said-takes}
+use Rattle.gp_dumpline.specs.Said.{IsSaid}
+use Rattle.gp_dumpline.proofs.HeaderLaws.{header-again}
+use Rattle.gp_dumpline.proofs.LogLineLaws.{section-again, section-takes}
 use Rattle.gp_dumpline.proofs.SpanLaws.{line-span, span-line}
 use Rattle.gp_dump.specs.Dumps.{Dump, IsRow, fits_columns, is_in_place, spans_in}
 use Rattle.gp_dump.specs.WholeDumps.{AreReadable}

@@ -1,41 +1,19 @@
 -- In every version of a history, and in all that its transactions read, rows fit the columns of their tables, and identities can be read from their
 -- texts.
-use Rattle.std.proofs.Common.{◌≡◌, ℕ, zero, suc, Bool, true, false, List, [], ◌∷◌, ◌++◌, Option, Some, None, Result, Ok, Err, slice_get, refl, subst, arith, ⊎_elim}
+use Rattle.gp_dump.proofs.Prelude.{◌≡◌, ℕ, zero, suc, Bool, true, false, List, [], ◌∷◌, ◌++◌, Option, Some, None, Result, Ok, Err, slice_get, refl, subst, arith, ⊎_elim, filter, Annotations, Database, Refusal, Table, command_text, command_of, Command, Written, Statement, first_refusal, meant_statement, accepted, each_filter, each_weaker, counts_are_within, all_reached, allowed, Run, answered, is_written, Conflict, Lost, RolledBack, statements_in, transactions_in, versions_in, Line, after, beginning, committing, conflict_of, count_refusal, creating, creation_refusal, ended, is_full, published, ran, refusal_of, running, start_now, IsReached, Active, State, start, with_value, parameters, AreScriptLines, reads-parsed, each_append, each_map}
 use Rattle.std.specs.Prelude.{nat_le, not, ◌==◌, if◌then◌else◌}
-use Rattle.std.specs.List.{filter}
-use Rattle.gp_base.specs.Annotated.{Annotations, Database}
-use Rattle.gp_base.specs.declared.refusal.Refusal.{Refusal}
-use Rattle.gp_base.specs.declared.table.Table.{Table}
-use Rattle.gp_grammar.specs.Canonical.{command_text}
-use Rattle.gp_grammar.specs.Reading.{command_of}
 use Rattle.gp_grammar.specs.Syntax as y
-use Rattle.gp_grammar.specs.Syntax.{Command}
-use Rattle.gp_algebra.specs.Effects.{Written}
-use Rattle.gp_algebra.specs.Statements.{Statement}
 use Rattle.gp_check.specs.Checking.{refused_by}
-use Rattle.gp_check.specs.Faults.{first_refusal}
-use Rattle.gp_check.specs.Meaning.{meant_statement}
-use Rattle.gp_check.proofs.FittingLemmas.{accepted}
-use Rattle.gp_machine.proofs.Distinct.{each_filter, each_weaker}
-use Rattle.gp_machine.proofs.LimitLemmas.{counts_are_within}
-use Rattle.gp_machine.proofs.ReachedLemmas.{all_reached, value_cases, within_limits}
-use Rattle.gp_machine.specs.Actions.{allowed}
-use Rattle.gp_machine.specs.ActionForms.{Run, answered}
+use Rattle.gp_machine.proofs.ReachedLemmas.{value_cases, within_limits}
 use Rattle.gp_machine.specs.Bases.{pairs}
-use Rattle.gp_machine.specs.Committed.{is_written, merged, next_version, unmarked}
-use Rattle.gp_machine.specs.Conflicts.{Conflict}
-use Rattle.gp_machine.specs.Entries.{End, Lost, RolledBack, statements_in, transactions_in, versions_in}
-use Rattle.gp_machine.specs.Event.{Line, after, beginning, committing, conflict_of, count_refusal, creating, creation_refusal, doing, ended, event, is_full, published, ran, refusal_of, running, start_now, version_now}
-use Rattle.gp_machine.specs.Reached.{CountsAreWithin, IsReached}
+use Rattle.gp_machine.specs.Committed.{merged, next_version, unmarked}
+use Rattle.gp_machine.specs.Entries.{End}
+use Rattle.gp_machine.specs.Event.{doing, event, version_now}
+use Rattle.gp_machine.specs.Reached.{CountsAreWithin}
 use Rattle.gp_machine.specs.Reading.{Seen, started}
-use Rattle.gp_machine.specs.State.{Active, State, start, with_value}
-use Rattle.gp_log.specs.Parameters.{parameters}
-use Rattle.gp_log.specs.ScriptLines.{AreScriptLines}
-use Rattle.gp_log.proofs.LineCommands.{reads-parsed}
 use Rattle.gp_dump.proofs.AlongLines.{along}
 use Rattle.gp_dump.proofs.ReadCommands.{read_valid, read_within}
 use Rattle.gp_dump.proofs.StepKinds.{AllFit, FitsRow, step_fits}
-use Rattle.gp_base.proofs.SmallLemmas.{each_append, each_map}
 
 pub record Fitting {M : Type 0} (state : State M) : Type 0 where
   pub committed : (version : ℕ) → AllFit state.catalogue (state.committed version)

@@ -1,44 +1,21 @@
 -- The statements and the row versions of a well-formed dump fit its tables. What was checked fits the tables of its time, and what fits some tables fits
 -- them with more behind.
-use Rattle.std.proofs.Common.{◌≡◌, ◌≤◌, ℕ, zero, suc, Bool, true, false, true≢false, List, [], ◌∷◌, ◌++◌, bytes_eq, codes, length, Some, None, if◌then◌else◌, Result, Ok, Err, refl, sym, ap, subst}
+use Rattle.gp_dump.proofs.Prelude.{◌≡◌, ◌≤◌, ℕ, zero, suc, Bool, true, false, true≢false, List, [], ◌∷◌, ◌++◌, codes, length, Some, None, if◌then◌else◌, Result, Ok, Err, refl, sym, ap, subst, AllByRecursion, list_all, eq-eqb, and_parts, Cell, MAX_NODES, Column, Kind, Table, is_user_cell, Identity, identity, nodes, command_text, Fault, command_of, Command, Statement, first_refusal, meant_statement, is_valid, tables_are_valid, accepted, Began, Committed, Created, Ended, Entry, Ran, versions_in, Span, Does, IsLog, Loses, next_entry, tables_in, parameters, if_canonical, IsReadable, said_text, is-said}
+use Rattle.std.proofs.Common.{bytes_eq}
 use Rattle.std.specs.Prelude.{slice_index_or}
-use Rattle.std.specs.List.{AllByRecursion, list_all}
-use Rattle.std.proofs.lemmas.Bool.{eq-eqb, and_from, and_parts}
-use Rattle.gp_base.specs.declared.cell.Cell.{Cell}
+use Rattle.std.proofs.lemmas.Bool.{and_from}
 use Rattle.gp_base.specs.declared.cell.Cell.TheVariants as cell
-use Rattle.gp_base.specs.declared.row_id.TheConstants.{MAX_NODES}
-use Rattle.gp_base.specs.declared.table.Column.{Column}
-use Rattle.gp_base.specs.declared.table.Kind.{Kind}
 use Rattle.gp_base.specs.declared.table.Kind.TheVariants as kind
-use Rattle.gp_base.specs.declared.table.Table.{Table}
-use Rattle.gp_base.specs.UserCells.{is_user_cell}
-use Rattle.gp_base.specs.Identities.{Identity, identity, nodes}
-use Rattle.gp_grammar.specs.Canonical.{command_text}
-use Rattle.gp_grammar.specs.LineReading.{Fault}
-use Rattle.gp_grammar.specs.Reading.{command_of}
 use Rattle.gp_grammar.specs.Syntax as y
-use Rattle.gp_grammar.specs.Syntax.{Command}
 use Rattle.gp_algebra.specs.Fitting.{row_fits, statement_fits}
-use Rattle.gp_algebra.specs.Statements.{Statement}
 use Rattle.gp_algebra.proofs.FittingMore.{statement_more}
-use Rattle.gp_check.specs.Faults.{first_refusal}
-use Rattle.gp_check.specs.Meaning.{meant_statement}
-use Rattle.gp_check.specs.Valid.{is_valid, tables_are_valid}
-use Rattle.gp_check.proofs.FittingLemmas.{accepted, fits}
+use Rattle.gp_check.proofs.FittingLemmas.{fits}
 use Rattle.gp_check.proofs.ValidLemmas.{tables-added}
-use Rattle.gp_machine.specs.Entries.{Began, Committed, Created, Ended, Entry, Ran, versions_in}
-use Rattle.gp_versions.specs.declared.span.Span.{Span}
-use Rattle.gp_log.specs.Discipline.{Does, IsLog, Loses, next_entry}
 use Rattle.gp_log.proofs.CheckedEntries.{was_checked}
-use Rattle.gp_log.specs.LogFacts.{tables_in}
 use Rattle.gp_log.specs.LogFitting.{SpanFits, SpansFit, statements_fit}
-use Rattle.gp_log.specs.Parameters.{parameters}
-use Rattle.gp_dumpline.specs.Forms.{if_canonical, said_of}
-use Rattle.gp_dumpline.specs.Rows.{IsReadable}
-use Rattle.gp_dumpline.specs.Texts.{said_text}
+use Rattle.gp_dumpline.specs.Forms.{said_of}
 use Rattle.gp_dump.specs.Dumps.{Dump, fits_columns, is_of_kind}
 use Rattle.gp_dump.specs.WholeDumps.{AreInPlace, AreOfTables, AreReadable, IsDump}
-use Rattle.gp_dumpline.proofs.SaidLaws.{is-said}
 use Rattle.gp_dump.proofs.ReadCommands.{read_valid}
 
 -- ---- more tables behind

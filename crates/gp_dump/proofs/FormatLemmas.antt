@@ -1,12 +1,10 @@
 -- The formats of a dump, and the logs that the first one cannot hold.
-use Rattle.std.proofs.Common.{◌≡◌, ℕ, ◌+◌, Bool, true, false, not, ◌||◌, List, [], ◌∷◌, take, Some, refl, sym, ap, ◌∙◌, inl, inr}
+use Rattle.gp_dump.proofs.Prelude.{◌≡◌, ℕ, ◌+◌, Bool, true, false, ◌||◌, List, [], ◌∷◌, take, Some, refl, sym, ap, ◌∙◌, inl, inr, cases_Bool, false≢true, or_parts, said_by, entry_view, log_view, is_said_in}
+use Rattle.std.proofs.Common.{not}
 use Rattle.std.specs.Prelude.{slice_get}
-use Rattle.std.proofs.lemmas.Bool.{cases_Bool, false≢true, or_parts}
 use Rattle.gp_machine.specs.Entries as m
 use Rattle.gp_log.specs.declared.entry.Entry.{Entry}
-use Rattle.gp_log.specs.Discipline.{said_by}
-use Rattle.gp_log.specs.Logs.{entry_view, log_view}
-use Rattle.gp_dumpline.specs.Said.{begins_read_committed, is_said_in}
+use Rattle.gp_dumpline.specs.Said.{begins_read_committed}
 use Rattle.gp_dump.specs.Dumps.{has_read_committed}
 use Rattle.gp_dump.proofs.DisciplineLemmas.{taken-back}
 

@@ -1,19 +1,10 @@
 -- What one more entry, and one more table, adds to what was read.
-use Rattle.std.proofs.Common.{◌≡◌, ℕ, ◌+◌, true, List, [], ◌∷◌, ◌++◌, length, map, reverse, refl, sym, ap, subst, ◌∙◌, arith}
-use Rattle.std.proofs.lemmas.List.{map-append, reverse-append}
+use Rattle.gp_dump.proofs.Prelude.{◌≡◌, ℕ, ◌+◌, true, List, [], ◌∷◌, ◌++◌, length, map, reverse, refl, sym, ap, subst, ◌∙◌, arith, map-append, reverse-append, sum_by-cons, Table, tables_are_valid, What, tables_in, log_view, what_view, log-pushed, Span, Versions}
 use Rattle.std.proofs.lemmas.List.Folds.{list_all-append}
-use Rattle.std.proofs.lemmas.List.Sums.{sum_by-cons}
-use Rattle.gp_base.specs.declared.table.Table.{Table}
-use Rattle.gp_check.specs.Valid.{table_is_valid, tables_are_valid}
+use Rattle.gp_check.specs.Valid.{table_is_valid}
 use Rattle.gp_machine.specs.Entries as m
 use Rattle.gp_log.specs.declared.entry.Entry.{Entry}
-use Rattle.gp_log.specs.declared.entry.What.{What}
 use Rattle.gp_log.specs.declared.entry.What.TheVariants.{Create, Begin, Statement, Commit, Lost, Rollback}
-use Rattle.gp_log.specs.LogFacts.{tables_in}
-use Rattle.gp_log.specs.Logs.{log_view, what_view}
-use Rattle.gp_log.proofs.EntryLemmas.{log-pushed}
-use Rattle.gp_versions.specs.declared.span.Span.{Span}
-use Rattle.gp_versions.specs.Spans.{Versions}
 use Rattle.gp_dump.specs.Dumps.{spans_in}
 use Rattle.gp_dump.specs.Reading.{CreatesValid, tables_before}
 use Rattle.gp_dump.specs.Views.{tables_view}

@@ -1,40 +1,21 @@
 -- The dump of every history is well formed.
-use Rattle.std.proofs.Common.{◌≡◌, ◌<◌, ◌≤◌, ℕ, zero, suc, ◌+◌, List, [], ◌∷◌, ◌++◌, length, map, take, Some, None, slice_get, get_or, refl, sym, ap, subst, ◌∙◌, arith, ◌⊎◌, inl, inr}
-use Rattle.std.specs.Option.{option_or}
+use Rattle.gp_dump.proofs.Prelude.{◌≡◌, ◌<◌, ◌≤◌, ℕ, zero, suc, ◌+◌, List, [], ◌∷◌, ◌++◌, length, map, take, Some, None, slice_get, get_or, refl, sym, ap, subst, ◌∙◌, arith, ◌⊎◌, inl, inr, option_or, AllByRecursion, map-append, take_all, slice_get_cases, Annotations, sorted_by, Table, Bytes, Command, first_refusal, query_tables_fault, table_fault, number_of_table, meant_statement, accepted, known, none_of, Span, span_cmp, counts_are_within, all_reached, versions_in, Line, after, IsReached, State, start, parameters, AreScriptLines, ltb-true}
 use Rattle.std.specs.Prelude.{sum}
-use Rattle.std.specs.List.{AllByRecursion, fold}
-use Rattle.std.proofs.lemmas.List.{map-append, take_all}
-use Rattle.std.proofs.lemmas.Option.{slice_get_cases}
-use Rattle.gp_base.specs.Annotated.{Annotations, unannotated}
-use Rattle.gp_base.specs.Order.{sorted_by}
-use Rattle.gp_base.specs.declared.table.Table.{Table}
+use Rattle.std.specs.List.{fold}
+use Rattle.gp_base.specs.Annotated.{unannotated}
 use Rattle.gp_grammar.specs.Syntax as y
-use Rattle.gp_grammar.specs.Syntax.{Bytes, Command}
-use Rattle.gp_check.specs.Faults.{first_refusal, query_tables_fault, table_fault}
-use Rattle.gp_check.specs.Meaning.{number_of_table, meant_statement}
-use Rattle.gp_check.proofs.FittingLemmas.{accepted, known, none_of}
-use Rattle.gp_versions.specs.declared.span.Span.{Span}
-use Rattle.gp_versions.specs.Spans.{span_cmp}
 use Rattle.gp_machine.proofs.CountLemmas.{all_counted}
-use Rattle.gp_machine.proofs.LimitLemmas.{counts_are_within}
-use Rattle.gp_machine.proofs.ReachedLemmas.{all_reached}
 use Rattle.gp_machine.proofs.SpanLaws.{each_span, spans_apart, spans_below, spans_whole}
-use Rattle.gp_machine.specs.Entries.{log_of, versions_in}
-use Rattle.gp_machine.specs.Event.{Line, after}
+use Rattle.gp_machine.specs.Entries.{log_of}
 use Rattle.gp_machine.specs.HistorySpans.{state_spans}
 use Rattle.gp_machine.specs.SpanCounts.{span_count}
 use Rattle.gp_machine.specs.CheckedTargets.{ChecksTargets, HasTarget}
-use Rattle.gp_machine.specs.Reached.{IsReached}
-use Rattle.gp_machine.specs.State.{State, start}
-use Rattle.gp_log.specs.Parameters.{parameters}
 use Rattle.gp_dump.specs.Dumps.{dump_of, spans_in, spans_in_order}
 use Rattle.gp_dump.specs.WholeDumps.{AreInPlace, AreOfTables, IsDump}
-use Rattle.gp_log.specs.ScriptLines.{AreScriptLines}
 use Rattle.gp_dump.proofs.FittingRows.{Fitting, all_fitting}
 use Rattle.gp_dump.proofs.LoggedLines.{all_logged}
 use Rattle.gp_dump.proofs.RowPlaces.{all_in_place, sorted_length, spans_begin}
 use Rattle.gp_dump.proofs.StepKinds.{Fits, FitsRow}
-use Rattle.std.proofs.lemmas.Bool.{ltb-true}
 use Rattle.gp_dump.proofs.DisciplineLemmas.{take-one}
 
 -- ---- the check passes only statements whose table is there

@@ -1,29 +1,20 @@
 -- The value of a well typed term, on a row whose cells are of the kinds of their columns: NULL, or a cell of the type of the term.
-use Rattle.std.proofs.Common.{◌≡◌, ℕ, suc, ℤ, Bool, true, false, true≢false, ◌&&◌, List, [], ◌∷◌, bytes_eq, get_or, filter_map, Option, Some, None, if◌then◌else◌, refl, sym, subst, ◌∙◌}
+use Rattle.gp_dump.proofs.Prelude.{◌≡◌, ℕ, suc, Bool, true, false, true≢false, ◌&&◌, List, [], ◌∷◌, get_or, Option, Some, None, if◌then◌else◌, refl, sym, subst, ◌∙◌, AllByRecursion, cons_option, Cell, Column, Kind, Bytes, Term, value, Place, TermType, Scope, place_behind, only_place, resolution, kind_type, agrees, column_type, type_of, expr_of, term_is_valid, same_Some, and_parts}
+use Rattle.std.proofs.Common.{ℤ, bytes_eq, filter_map}
 use Rattle.std.specs.Prelude.{◌+ℤ◌, ◌-ℤ◌, ◌*ℤ◌, neg_ℤ}
-use Rattle.std.specs.List.{AllByRecursion, cons_option}
-use Rattle.gp_base.specs.declared.cell.Cell.{Cell}
 use Rattle.gp_base.specs.declared.cell.Cell.TheVariants as cell
-use Rattle.gp_base.specs.declared.table.Column.{Column}
-use Rattle.gp_base.specs.declared.table.Kind.{Kind}
 use Rattle.gp_base.specs.declared.table.Kind.TheVariants as kind
 use Rattle.gp_base.specs.Cells.{fits_number}
 use Rattle.gp_grammar.specs.declared.op.Op.TheVariants as op
 use Rattle.gp_grammar.specs.Syntax as y
-use Rattle.gp_grammar.specs.Syntax.{Bytes, Term}
-use Rattle.gp_expr.specs.Values.{column, number, on_numbers, negated, is_null, holds, truth, value}
-use Rattle.gp_check.specs.declared.place.Place.{Place}
+use Rattle.gp_expr.specs.Values.{column, number, on_numbers, negated, is_null, holds, truth}
 use Rattle.gp_check.specs.declared.place.Resolution.{Resolution}
 use Rattle.gp_check.specs.declared.place.Resolution.TheVariants.{Absent, Found, Ambiguous}
-use Rattle.gp_check.specs.declared.types.TermType.{TermType}
 use Rattle.gp_check.specs.declared.types.TermType.TheVariants.{Null, Int, Text, Condition}
-use Rattle.gp_check.specs.Scopes.{Source, Scope, ColumnName, place_behind, may_be_of, place_in, only_place, resolution}
-use Rattle.gp_check.specs.Typing.{kind_type, agrees, common_type, typed_if, is_condition, choice_type, column_type, type_of}
-use Rattle.gp_check.specs.Meaning.{column_expr, expr_of, cond_of}
-use Rattle.gp_check.specs.Valid.{term_is_valid}
+use Rattle.gp_check.specs.Scopes.{Source, ColumnName, may_be_of, place_in}
+use Rattle.gp_check.specs.Typing.{common_type, typed_if, is_condition, choice_type}
+use Rattle.gp_check.specs.Meaning.{column_expr, cond_of}
 use Rattle.gp_dump.specs.Dumps.{is_of_kind}
-use Rattle.std.proofs.lemmas.Option.{same_Some}
-use Rattle.std.proofs.lemmas.Bool.{and_parts}
 
 -- ---- cells of a type
 

@@ -1,39 +1,22 @@
 -- The laws of dumps: the round trip, one dump for one text, and the order of its row lines.
-use Rattle.std.proofs.Common.{◌≡◌, inl, inr, ℕ, ◌<◌, Bool, true, List, [], ◌∷◌, map, Some, None, Result, Ok, Err, IfOk, refl, sym, ap, subst, ◌∙◌}
-use Rattle.std.specs.List.{AllByRecursion}
-use Rattle.std.specs.Ordering.{is_le, nat_cmp}
-use Rattle.std.specs.declared.cmp.Ordering.TheVariants.{Less, Equal}
+use Rattle.gp_dump.proofs.Prelude.{◌≡◌, inl, inr, ℕ, ◌<◌, Bool, true, List, [], ◌∷◌, map, Some, None, refl, sym, ap, subst, ◌∙◌, AllByRecursion, is_le, nat_cmp, Less, Equal, tied_itself, Column, Table, identity_cmp, identity_cmp_total, insert_sorted, sorted_by, Span, span_cmp, AreWhole, NoOverlap, span_cmp_total}
 use Rattle.std.specs.Cmp.{nat_cmp_is}
-use Rattle.std.proofs.lemmas.Cmp.{tied_itself}
-use Rattle.gp_base.specs.declared.table.Column.{Column}
-use Rattle.gp_base.specs.declared.table.Table.{Table}
-use Rattle.gp_base.specs.Identities.{identity_cmp}
-use Rattle.gp_base.specs.IdentityOrder.{identity_cmp_total}
-use Rattle.gp_base.specs.Order.{insert_sorted, sorted_by}
-use Rattle.gp_versions.specs.declared.span.Span.{Span}
-use Rattle.gp_versions.specs.Spans.{span_cmp}
-use Rattle.gp_versions.specs.TableSpans.{AreWhole, NoOverlap}
-use Rattle.gp_dump.specs.declared.dump.Dump as code
-use Rattle.gp_dump.specs.declared.error.DumpStop.{DumpStop}
 use Rattle.gp_dump.specs.Dumps.{Dump, dump_text, has_read_committed, written_text}
 use Rattle.gp_dump.specs.WholeDumps.{AreInPlace, AreOfTables, IsDump, IsTextOf, dump_with}
 use Rattle.gp_dump.specs.Rules.{WellFormed}
-use Rattle.gp_dump.specs.Reading.{Continues}
 use Rattle.gp_dump.specs.Verdicts.{Fails, Holds, Verdict, fault_in, first_fault, verdict_on}
-use Rattle.gp_dump.specs.Views.{dump_view}
 use Rattle.gp_dump.proofs.PlaceLemmas.{Follows, in-place-apart, rows-follow}
 use Rattle.gp_dump.proofs.FaultLemmas.{kept-found, kept-is}
 use Rattle.gp_dump.proofs.LineLemmas.{line-laws, log-lawful}
-use Rattle.gp_dump.proofs.RoundTrip.{read-well-formed, well-formed-read}
+use Rattle.gp_dump.proofs.RoundTrip.{read-well-formed, well-formed-read, held}
 use Rattle.gp_dump.proofs.SortLemmas.{IsAscending, IsLowerBound}
-use Rattle.gp_versions.proofs.OrderLemmas.{span_cmp_total}
 
 -- ---- the round trip
 
 text-read : (bytes : List ℕ) (dump : Dump) → IsTextOf bytes dump → verdict_on bytes ≡ Holds dump
 text-read = well-formed-read line-laws log-lawful
 
-read-text : (bytes : List ℕ) (dump : Dump) → verdict_on bytes ≡ Holds dump → IsTextOf bytes dump
+pub read-text : (bytes : List ℕ) (dump : Dump) → verdict_on bytes ≡ Holds dump → IsTextOf bytes dump
 read-text = read-well-formed line-laws log-lawful
 
 pub whole-text : (bytes : List ℕ) (dump : Dump) → WellFormed bytes dump → IsTextOf bytes dump
@@ -41,12 +24,6 @@ whole-text bytes dump is = read-text bytes dump (kept-is bytes dump is)
 
 pub text-lines : (bytes : List ℕ) (dump : Dump) → IsTextOf bytes dump → WellFormed bytes dump
 text-lines bytes dump is = kept-found bytes dump (text-read bytes dump is)
-
--- what was read keeps the rules
-pub read-rules : (bytes : List ℕ) (result : Result code.Dump DumpStop) → Continues result (λ dump. Holds (dump_view dump)) (verdict_on bytes)
-    → IfOk result (λ dump. IsDump (dump_view dump))
-read-rules bytes (Ok dump) is = (read-text bytes (dump_view dump) is).rules
-read-rules bytes (Err stop) is = tt
 
 -- ---- the order of row lines
 
@@ -101,9 +78,6 @@ tables-whole (table ∷ others) versions (spans ∷ tables) all = ((in-place-apa
 
 -- ---- one dump for one text
 
-holds-same : (dump other : Dump) → Holds dump ≡ Holds other → dump ≡ other
-holds-same dump other e = cc
-
 some-none : (fault : ℕ × ℕ) → None ≡ Some fault → ⊥
 some-none fault e = cc
 
@@ -113,7 +87,7 @@ held-by bytes (Holds dump) is none = (dump, is)
 held-by bytes (Fails fault line) is none = absurd (some-none (fault, line) (sym none))
 
 pub one-dump : (bytes : List ℕ) (dump other : Dump) → WellFormed bytes dump → WellFormed bytes other → dump ≡ other
-one-dump bytes dump other first second = holds-same dump other (sym (kept-is bytes dump first) ∙ kept-is bytes other second)
+one-dump bytes dump other first second = held dump other (sym (kept-is bytes dump first) ∙ kept-is bytes other second)
 
 pub no-fault : (bytes : List ℕ) (dump : Dump) → WellFormed bytes dump → first_fault bytes ≡ None
 no-fault bytes dump is = ap fault_in (kept-is bytes dump is)

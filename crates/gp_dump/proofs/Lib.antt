@@ -1,3 +1,4 @@
+pub mod Prelude
 pub mod DisciplineLemmas
 pub mod FormatLemmas
 pub mod GrowthLemmas
@@ -12,6 +13,7 @@ pub mod RoundTrip
 pub mod SortLemmas
 pub mod WriteLemmas
 pub mod AlongLines
+pub mod AnswerableLemmas
 pub mod FittingRows
 pub mod FittingTables
 pub mod HistoryDumps

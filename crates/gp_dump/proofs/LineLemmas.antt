@@ -1,44 +1,20 @@
 -- The laws of single lines, given the lines before them: from the laws of their forms, and from what a log that can be read says of its tables.
-use Rattle.std.proofs.Common.{◌≡◌, ℕ, suc, ◌+◌, ◌<◌, ◌≤◌, Bool, true, false, cond, leb, ltb, List, [], ◌∷◌, ◌++◌, length, Option, Some, None, Result, Ok, Err, inl, inr, refl, sym, ap, subst, ◌∙◌, arith, codes}
-use Rattle.std.specs.List.{AllByRecursion, list_all}
-use Rattle.std.specs.Option.{ok_or, option_map}
-use Rattle.std.specs.Str.{bytes_eq}
-use Rattle.std.proofs.lemmas.Bool.{cases_Bool, false≢true, le-leb, leb-true, lt-ltb, ltb-true, and_parts}
-use Rattle.gp_base.specs.declared.cell.Cell.{Cell}
+use Rattle.gp_dump.proofs.Prelude.{◌≡◌, ℕ, suc, ◌+◌, ◌<◌, ◌≤◌, Bool, true, false, cond, leb, ltb, List, [], ◌∷◌, ◌++◌, length, Option, Some, None, Result, Ok, Err, inl, inr, refl, sym, ap, subst, ◌∙◌, arith, codes, AllByRecursion, list_all, ok_or, option_map, bytes_eq, cases_Bool, false≢true, le-leb, leb-true, lt-ltb, ltb-true, and_parts, Cell, Refusal, Column, Kind, Table, is_user_cell, command_text, Fault, command_of, Command, Statement, Span, MAX_SPANS, allowed, Run, Entry, RolledBack, Lost, Created, Began, Ran, Committed, Ended, line_of, session_of, statement_count, statements_in, transactions_in, versions_in, count_refusal, MAX_ENTRIES, Said, Does, Loses, Flaw, Disorder, command_entry, last_line, next_entry, statement_entry, said_by, transaction_in, tables_in, parameters, LogLine, if_canonical, log_line_of, section_of, span_of, is_said_in, entry_text, said_text, section_text, span_text, command-read, count-again, count-takes, log_line-again, log_line-takes, is-said, said-takes}
 use Rattle.gp_base.specs.declared.cell.Cell.TheVariants as cell
-use Rattle.gp_base.specs.declared.refusal.Refusal.{Refusal}
-use Rattle.gp_base.specs.declared.table.Column.{Column}
-use Rattle.gp_base.specs.declared.table.Kind.{Kind}
 use Rattle.gp_base.specs.declared.table.Kind.TheVariants as kind
-use Rattle.gp_base.specs.declared.table.Table.{Table}
-use Rattle.gp_base.specs.UserCells.{is_user_cell}
 use Rattle.gp_base.specs.Names.{is_name}
-use Rattle.gp_grammar.specs.Canonical.{command_text}
-use Rattle.gp_grammar.specs.LineReading.{Fault}
-use Rattle.gp_grammar.specs.Reading.{command_of}
 use Rattle.gp_grammar.specs.Syntax as y
-use Rattle.gp_grammar.specs.Syntax.{Command}
-use Rattle.gp_algebra.specs.Statements.{Statement}
-use Rattle.gp_versions.specs.declared.span.Span.{Span}
-use Rattle.gp_base.specs.declared.limit.TheConstants.{MAX_SPANS}
-use Rattle.gp_machine.specs.Actions.{allowed}
-use Rattle.gp_machine.specs.ActionForms.{Run, allowed_to}
+use Rattle.gp_machine.specs.ActionForms.{allowed_to}
 use Rattle.gp_machine.proofs.EntryCounts.{count-most}
-use Rattle.gp_machine.specs.Entries.{Entry, RolledBack, Lost, Created, Began, Ran, Committed, Ended, is_commit, line_of, session_of, statement_count, statements_in, transactions_in, versions_in}
-use Rattle.gp_machine.specs.Event.{count_refusal}
-use Rattle.gp_log.specs.declared.limit.TheConstants.{MAX_ENTRIES}
-use Rattle.gp_log.specs.Discipline.{Said, Does, Loses, Flaw, Disorder, creation_entry, command_entry, last_line, next_entry, statement_entry, said_by, transaction_in}
-use Rattle.gp_log.specs.LogFacts.{tables_in}
-use Rattle.gp_log.specs.Parameters.{parameters}
+use Rattle.gp_machine.specs.Entries.{is_commit}
+use Rattle.gp_log.specs.Discipline.{creation_entry}
 use Rattle.gp_dumpline.specs.Numbers.{beyond_versions}
-use Rattle.gp_dumpline.specs.Forms.{HasForm, IsVersion, LogLine, if_canonical, log_line_of, said_of, section_of, span_of}
-use Rattle.gp_dumpline.specs.Said.{is_said_in}
+use Rattle.gp_dumpline.specs.Forms.{HasForm, IsVersion, said_of}
 use Rattle.gp_dumpline.specs.Rows.{is_readable_cell}
-use Rattle.gp_dumpline.specs.Texts.{entry_text, log_line_text, said_text, section_text, span_text}
-use Rattle.gp_check.proofs.ValidLemmas.{command-read}
-use Rattle.gp_dumpline.proofs.LogLineLaws.{count-again, count-takes, log_line-again, log_line-takes, section-again as section_form-again, section-takes as section_form-takes}
+use Rattle.gp_dumpline.specs.Texts.{log_line_text}
+use Rattle.gp_dumpline.proofs.LogLineLaws.{section-again as section_form-again, section-takes as section_form-takes}
 use Rattle.gp_dumpline.proofs.OneLine.{count-one_line, end-one_line, entry-one_line, header-one_line, section-one_line, span-one_line}
-use Rattle.gp_dumpline.proofs.SaidLaws.{command-name, is-said, said-takes}
+use Rattle.gp_dumpline.proofs.SaidLaws.{command-name}
 use Rattle.gp_dumpline.proofs.SpanLaws.{span-again, span-takes}
 use Rattle.gp_dump.specs.Dumps.{IsRow, ends_within, fits_columns, is_in_place, is_of_kind}
 use Rattle.gp_dump.specs.WholeDumps.{AreReadable}

@@ -1,44 +1,16 @@
 -- The entries of a history are a log: each follows those before it.
-use Rattle.std.proofs.Common.{◌≡◌, ◌≤◌, ℕ, zero, suc, Bool, true, false, ◌==◌, nat_le, List, [], ◌∷◌, ◌++◌, length, Option, Some, None, Result, Ok, Err, if◌then◌else◌, refl, sym, ap, subst, ◌∙◌, arith}
-use Rattle.std.specs.Option.{ok_or, option_map}
-use Rattle.gp_base.specs.Annotated.{Annotations}
+use Rattle.gp_dump.proofs.Prelude.{◌≡◌, ◌≤◌, ℕ, zero, suc, Bool, true, false, ◌==◌, nat_le, List, [], ◌∷◌, ◌++◌, length, Option, Some, None, Result, Ok, Err, if◌then◌else◌, refl, sym, ap, subst, ◌∙◌, arith, ok_or, option_map, Annotations, Refusal, E14, Table, command_text, command_of, Command, Statement, all_reached, Runs, allowed, Run, answered, Conflict, Began, Committed, Created, Ended, Entry, Lost, Ran, RolledBack, statement_count, statements_in, transactions_in, versions_in, line_of, session_of, Line, after, beginning, committing, conflict_of, count_refusal, creating, creation_refusal, ended, is_full, line_event, published, ran, refusal_of, running, start_now, Parameters, IsReached, Active, State, start, with_value, Does, Disorder, IsLog, IsNext, Loses, command_entry, last_line, next_entry, said_by, transaction_in, tables_in, said_of, said_text, AreScriptLines, IsLineAfter, reads-parsed, said-is, eqb-true}
 use Rattle.gp_base.specs.declared.limit.Limit.TheVariants as limit
-use Rattle.gp_base.specs.declared.refusal.Refusal.{Refusal}
-use Rattle.gp_base.specs.declared.refusal.Refusal.TheVariants.{E14}
-use Rattle.gp_base.specs.declared.table.Table.{Table}
 use Rattle.gp_grammar.specs.declared.limits.TheConstants.{MAX_SESSION}
-use Rattle.gp_grammar.specs.Canonical.{command_text}
-use Rattle.gp_grammar.specs.Reading.{command_of}
 use Rattle.gp_grammar.specs.Syntax as y
-use Rattle.gp_grammar.specs.Syntax.{Command}
-use Rattle.gp_algebra.specs.Statements.{Statement}
-use Rattle.gp_machine.proofs.ReachedLemmas.{all_reached}
-use Rattle.gp_machine.specs.Actions.{Runs, allowed}
-use Rattle.gp_machine.specs.ActionForms.{Run, answered}
 use Rattle.gp_machine.specs.Event as step
-use Rattle.gp_machine.specs.Conflicts.{Conflict}
-use Rattle.gp_machine.specs.Entries.{Began, Committed, Created, Ended, Entry, Lost, Ran, RolledBack, statement_count, statements_in, transactions_in, versions_in, line_of, session_of}
-use Rattle.gp_machine.specs.Event.{Line, accepted, after, began, beginning, committing, conflict_of, count_refusal, created, creating, creation_refusal, ended, is_full, line_event, published, ran, refusal_of, running, start_now}
-use Rattle.gp_machine.specs.Parameters.{Parameters}
-use Rattle.gp_machine.specs.Reached.{IsReached}
-use Rattle.gp_machine.specs.State.{Active, State, start, with_value}
+use Rattle.gp_machine.specs.Event.{accepted, began, created}
 use Rattle.gp_log.specs.declared.limit.TheConstants.{MAX_LINE}
 use Rattle.gp_log.specs.Discipline as d
-use Rattle.gp_log.specs.Discipline.{Does, Disorder, IsLog, IsNext, Loses, command_entry, last_line, next_entry, said_by, transaction_in}
-use Rattle.gp_log.specs.LogFacts.{tables_in}
-use Rattle.gp_dumpline.specs.Forms.{said_of}
-use Rattle.gp_dumpline.specs.Texts.{said_text}
 use Rattle.gp_dump.specs.WholeDumps.{AreReadable}
-use Rattle.gp_log.specs.ScriptLines.{AreScriptLines, IsLineAfter}
-use Rattle.gp_log.proofs.LineCommands.{reads-parsed}
-use Rattle.gp_dumpline.proofs.SaidLaws.{said-is, command-said}
+use Rattle.gp_dumpline.proofs.SaidLaws.{command-said, lost-said}
 use Rattle.gp_dump.proofs.AlongLines.{along}
-use Rattle.std.proofs.lemmas.Bool.{eqb-true}
 use Rattle.gp_base.proofs.SmallLemmas.{some_none}
-
-lost_is_read : said_of (said_text Loses) ≡ Some Loses
-unfolding said_of
-lost_is_read = refl
 
 abbrev transaction : {M : Type 0} → Active M → ℕ
 transaction active = active.transaction
@@ -162,7 +134,7 @@ module _ {M : Type 0} (domain : Annotations M) (parameters : Parameters) (state 
 
     commit_it : command_of (command_text y.Command.commit) ≡ Ok y.Command.commit → (lost : Option Conflict) (full : Bool) → Logged parameters line.number (committing state number session active lost full).0
     commit_it read (Some conflict) full =
-        enter (ended state number session active Lost) (Ended number session Lost active.transaction) None refl refl refl (ap (λ t. ok_or (option_map (Ended number session Lost) t) Disorder) (runs (Some active) e)) lost_is_read (λ n. refl) (λ n. refl) logged.tables
+        enter (ended state number session active Lost) (Ended number session Lost active.transaction) None refl refl refl (ap (λ t. ok_or (option_map (Ended number session Lost) t) Disorder) (runs (Some active) e)) lost-said (λ n. refl) (λ n. refl) logged.tables
     commit_it read None true = same
     commit_it read None false =
         enter (published state number session active) (Committed number session active.transaction) None refl refl refl

@@ -1,16 +1,6 @@
 -- Row lines in their places are spans that never overlap and that are empty nowhere.
-use Rattle.std.proofs.Common.{◌≡◌, ◌⊎◌, inl, inr, ℕ, ◌<◌, ◌≤◌, Bool, true, false, ◌||◌, List, [], ◌∷◌, Option, Some, None, IsSomeAnd, refl, sym, ap, subst, ◌∙◌, arith, leb, ltb}
-use Rattle.std.specs.List.{AllByRecursion}
-use Rattle.std.specs.Ordering.{is_eq, is_lt}
-use Rattle.std.specs.declared.cmp.Ordering.TheVariants.{Less}
-use Rattle.std.proofs.lemmas.Bool.{false≢true, leb-true, ltb-true, and_parts}
-use Rattle.gp_base.specs.declared.table.Column.{Column}
-use Rattle.gp_base.specs.Identities.{identity_cmp, same_identity}
-use Rattle.gp_base.specs.IdentityOrder.{identity_cmp_total}
-use Rattle.gp_base.proofs.IdentityLaws.{same_identity-is}
+use Rattle.gp_dump.proofs.Prelude.{◌≡◌, ◌⊎◌, inl, inr, ℕ, ◌<◌, ◌≤◌, Bool, true, false, ◌||◌, List, [], ◌∷◌, Option, Some, None, IsSomeAnd, refl, sym, ap, subst, ◌∙◌, arith, leb, ltb, AllByRecursion, is_eq, is_lt, Less, false≢true, leb-true, ltb-true, and_parts, Column, identity_cmp, same_identity, identity_cmp_total, same_identity-is, Span, AreWhole, IsApart, IsEndAbove, NoOverlap}
 use Rattle.gp_versions.proofs.SameLemmas.{same-exact}
-use Rattle.gp_versions.specs.declared.span.Span.{Span}
-use Rattle.gp_versions.specs.TableSpans.{AreWhole, IsApart, IsEndAbove, NoOverlap}
 use Rattle.gp_dump.specs.Dumps.{ends_within, has_ended_by, is_after, is_in_place, is_next}
 use Rattle.gp_dump.specs.WholeDumps.{AreInPlace}
 use Rattle.gp_base.proofs.MonomialLemmas.{less_is}

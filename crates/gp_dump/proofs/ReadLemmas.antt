@@ -1,17 +1,8 @@
 -- How the verdict goes on, line by line.
-use Rattle.std.proofs.Common.{◌≡◌, ℕ, suc, ◌+◌, ◌≤◌, Bool, true, false, List, [], ◌∷◌, length, reverse, Option, Some, None, Result, Ok, Err, refl, sym, ap, subst, ◌∙◌, arith, inl, inr}
+use Rattle.gp_dump.proofs.Prelude.{◌≡◌, ℕ, suc, ◌+◌, ◌≤◌, Bool, true, false, List, [], ◌∷◌, length, reverse, Option, Some, None, Result, Ok, Err, refl, sym, ap, subst, ◌∙◌, arith, inl, inr, is_utf8, bytes_eq, cases_Bool, Column, Table, Span, Entry, versions_in, tables_in, count_of, header_of, end_text}
 use Rattle.std.specs.Prelude.{slice_get}
 use Rattle.std.specs.Result.{IsErrAnd}
-use Rattle.std.specs.Str.{is_utf8, bytes_eq}
-use Rattle.std.proofs.lemmas.Bool.{cases_Bool}
 use Rattle.std.proofs.lemmas.Option.{slice_get_past}
-use Rattle.gp_base.specs.declared.table.Column.{Column}
-use Rattle.gp_base.specs.declared.table.Table.{Table}
-use Rattle.gp_versions.specs.declared.span.Span.{Span}
-use Rattle.gp_machine.specs.Entries.{Entry, versions_in}
-use Rattle.gp_log.specs.LogFacts.{tables_in}
-use Rattle.gp_dumpline.specs.Forms.{count_of, header_of}
-use Rattle.gp_dumpline.specs.Texts.{end_text}
 use Rattle.gp_dump.specs.declared.error.DumpStop.{DumpStop}
 use Rattle.gp_dump.specs.declared.error.LineStop.{LineStop}
 use Rattle.gp_dump.specs.declared.error.LineStop.TheVariants as stop

@@ -1,26 +1,9 @@
 -- The round trip of whole dumps, from the laws of single lines: the rules take the text of a dump as this dump, and no other text.
-use Rattle.std.proofs.Common.{◌≡◌, ℕ, zero, suc, ◌+◌, ◌≤◌, Bool, true, false, eqb, List, [], ◌∷◌, ◌++◌, length, map, reverse, Option, Some, None, Result, Ok, Err, inl, inr, refl, sym, ap, subst, ◌∙◌, arith, append_assoc}
-use Rattle.std.specs.List.{AllByRecursion, flat_map, list_any, slice_get}
-use Rattle.std.specs.Str.{is_utf8, bytes_eq}
-use Rattle.std.proofs.lemmas.Bool.{cases_Bool, eqb-true, false≢true}
-use Rattle.std.proofs.lemmas.List.{append-nil, length-reverse, map-append, reverse-append, reverse-reverse, length-append}
-use Rattle.std.proofs.lemmas.List.Sums.{sum_by-cons}
-use Rattle.std.proofs.lemmas.Slice.Eq.{bytes_eq-Decides}
-use Rattle.gp_base.specs.declared.table.Column.{Column}
-use Rattle.gp_base.specs.declared.table.Table.{Table}
-use Rattle.gp_versions.specs.declared.span.Span.{Span}
-use Rattle.gp_base.specs.declared.limit.TheConstants.{MAX_SPANS}
-use Rattle.gp_machine.specs.Entries.{Entry, versions_in}
-use Rattle.gp_log.specs.declared.limit.TheConstants.{MAX_ENTRIES}
-use Rattle.gp_log.specs.Discipline.{IsLog, IsNext, said_by}
-use Rattle.gp_log.specs.LogFacts.{tables_in}
-use Rattle.gp_log.specs.Parameters.{parameters}
-use Rattle.gp_dumpline.specs.Forms.{count_of, header_of, said_of}
-use Rattle.gp_dumpline.specs.Said.{is_said_in}
-use Rattle.gp_dumpline.specs.Texts.{count_text, end_text, entry_text, header, said_text, section_text, span_text}
+use Rattle.gp_dump.proofs.Prelude.{◌≡◌, ℕ, zero, suc, ◌+◌, ◌≤◌, Bool, true, false, eqb, List, [], ◌∷◌, ◌++◌, length, map, reverse, Option, Some, None, Result, Ok, Err, inl, inr, refl, sym, ap, subst, ◌∙◌, arith, append_assoc, AllByRecursion, flat_map, list_any, is_utf8, bytes_eq, cases_Bool, eqb-true, false≢true, append-nil, length-reverse, map-append, reverse-append, reverse-reverse, sum_by-cons, bytes_eq-Decides, Column, Table, Span, MAX_SPANS, Entry, versions_in, MAX_ENTRIES, IsLog, IsNext, said_by, tables_in, parameters, count_of, header_of, said_of, is_said_in, count_text, end_text, entry_text, header, said_text, section_text, span_text, header-takes, is-said, said-is}
+use Rattle.std.specs.List.{slice_get}
+use Rattle.std.proofs.lemmas.List.{length-append}
 use Rattle.gp_dumpline.specs.Laws.{IsOneLine}
-use Rattle.gp_dumpline.proofs.HeaderLaws.{header-again as header_form-again, header-takes}
-use Rattle.gp_dumpline.proofs.SaidLaws.{is-said, said-is}
+use Rattle.gp_dumpline.proofs.HeaderLaws.{header-again as header_form-again}
 use Rattle.gp_dump.specs.Dumps.{Dump, IsRow, has_read_committed, with_newline, sections_texts, spans_in, texts_of}
 use Rattle.gp_dump.specs.Writing.{section_texts}
 use Rattle.gp_dump.specs.WholeDumps.{AreInPlace, AreOfTables, AreReadable, IsDump, IsTextOf}
@@ -404,7 +387,7 @@ pub record TookEnd (log : List Entry) (tables : List (List Span)) (lines : List 
   pub is : lines ≡ last_lines more
   pub holds : record { entries = log; tables = reverse tables } ≡ dump
 
-held : (a b : Dump) → Holds a ≡ Holds b → a ≡ b
+pub held : (a b : Dump) → Holds a ≡ Holds b → a ≡ b
 held a b e = cc
 
 nothing-taken : (line : DumpLine) (number : ℕ) (due dump : Dump) → end_verdict (nothing_line line) number due ≡ Holds dump → (line ≡ Missing) × (due ≡ dump)

@@ -1,17 +1,6 @@
 -- Row lines: which columns can hold them, which spans can be one after another, and why the spans of a table never overlap.
-use Rattle.std.proofs.Common.{◌≡◌, ℕ, true, false, ◌&&◌, List, [], ◌∷◌, ◌++◌, length, reverse, Some, refl, sym, ap, subst, ◌∙◌}
-use Rattle.std.specs.List.{AllByRecursion}
-use Rattle.std.specs.Ordering.{is_eq}
+use Rattle.gp_dump.proofs.Prelude.{◌≡◌, ℕ, true, false, ◌&&◌, List, [], ◌∷◌, ◌++◌, length, reverse, Some, refl, sym, ap, subst, ◌∙◌, AllByRecursion, is_eq, Less, Equal, Greater, reverse-append, reverse-reverse, Table, identity_cmp, same_identity, same_identity-is, Entry, versions_in, tables_in, Span, AreWhole, IsApart, IsEndAbove, NoOverlap}
 use Rattle.std.specs.Prelude.{nat_lt, slice_get}
-use Rattle.std.specs.declared.cmp.Ordering.TheVariants.{Less, Equal, Greater}
-use Rattle.std.proofs.lemmas.List.{reverse-append, reverse-reverse}
-use Rattle.gp_base.specs.declared.table.Table.{Table}
-use Rattle.gp_base.specs.Identities.{identity_cmp, same_identity}
-use Rattle.gp_base.proofs.IdentityLaws.{same_identity-is}
-use Rattle.gp_machine.specs.Entries.{Entry, versions_in}
-use Rattle.gp_log.specs.LogFacts.{tables_in}
-use Rattle.gp_versions.specs.declared.span.Span.{Span}
-use Rattle.gp_versions.specs.TableSpans.{AreWhole, IsApart, IsEndAbove, NoOverlap}
 use Rattle.gp_dump.specs.Dumps.{has_ended_by, is_after, is_in_place}
 use Rattle.gp_dump.specs.Reading.{AreDue}
 use Rattle.gp_dump.specs.Verdicts.{cols_of}

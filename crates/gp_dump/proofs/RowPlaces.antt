@@ -1,35 +1,14 @@
 -- The spans of a table of a history, in the order of a dump, are in their places: they rise strictly, and no span of a row reaches into its next.
-use Rattle.std.proofs.Common.{◌≡◌, ◌<◌, ◌≤◌, ℕ, zero, suc, true, false, true≢false, ◌&&◌, ◌||◌, ◌==◌, nat_lt, cond, List, [], ◌∷◌, length, Option, Some, None, slice_get, if◌then◌else◌, refl, sym, ap, subst, ◌∙◌, arith, ◌⊎◌, inl, inr, ⊎_elim}
+use Rattle.gp_dump.proofs.Prelude.{◌≡◌, ◌<◌, ◌≤◌, ℕ, zero, suc, true, false, true≢false, ◌&&◌, ◌||◌, ◌==◌, nat_lt, cond, List, [], ◌∷◌, length, Option, Some, None, slice_get, if◌then◌else◌, refl, sym, ap, subst, ◌∙◌, arith, ◌⊎◌, inl, inr, ⊎_elim, AllByRecursion, filter, Ordering, Less, Equal, Greater, is_le, is_lt, is_eq, ordering_reverse, ordering_then, nat_cmp, exact_unsigned, nat_tests, same_identity-is, Annotated, Identity, identity_cmp, same_identity, identity_cmp_total, identity_cmp-exact, insert_sorted, sorted_by, Column, Table, Written, Span, span_cmp, each_weaker, AreWhole, IsApart, IsEndAbove, NoOverlap, is_written, IsReadable, le-leb, lt-ltb, each_append, each_map, span_cmp_total, same-itself}
 use Rattle.std.specs.Prelude.{IsSomeAnd}
-use Rattle.std.specs.List.{AllByRecursion, filter}
-use Rattle.std.specs.declared.cmp.Ordering.{Ordering}
-use Rattle.std.specs.declared.cmp.Ordering.TheVariants.{Less, Equal, Greater}
-use Rattle.std.specs.Ordering.{is_le, is_lt, is_eq, ordering_reverse, ordering_then, nat_cmp}
 use Rattle.std.specs.Cmp.{tied_itself}
-use Rattle.std.proofs.lemmas.Map.Lookups.{exact_unsigned}
-use Rattle.std.proofs.lemmas.Bool.Decides.{nat_tests}
-use Rattle.gp_base.proofs.IdentityLaws.{same_identity-is}
-use Rattle.gp_base.specs.Annotated.{Annotated, Environment}
-use Rattle.gp_base.specs.Identities.{Identity, identity_cmp, same_identity}
-use Rattle.gp_base.specs.IdentityOrder.{identity_cmp_total, identity_cmp-exact}
-use Rattle.gp_base.specs.Order.{insert_sorted, sorted_by}
-use Rattle.gp_base.specs.declared.table.Column.{Column}
-use Rattle.gp_base.specs.declared.table.Table.{Table}
-use Rattle.gp_algebra.specs.Effects.{Written}
-use Rattle.gp_versions.specs.declared.span.Span.{Span}
+use Rattle.gp_base.specs.Annotated.{Environment}
 use Rattle.gp_versions.specs.Commits.{AreBelow, IsBelow, IsEndBelow}
-use Rattle.gp_versions.specs.Spans.{span_cmp}
-use Rattle.gp_machine.proofs.Distinct.{each_all, each_both, each_weaker}
-use Rattle.gp_versions.specs.TableSpans.{AreWhole, IsApart, IsEndAbove, NoOverlap}
-use Rattle.gp_machine.specs.Committed.{is_written}
+use Rattle.gp_machine.proofs.Distinct.{each_all, each_both}
 use Rattle.gp_machine.specs.HistorySpans.{spans_from, spans_upto}
-use Rattle.gp_dumpline.specs.Rows.{IsReadable}
 use Rattle.gp_dump.specs.Dumps.{ends_within, fits_columns, has_ended_by, is_after, is_next}
 use Rattle.gp_dump.specs.WholeDumps.{AreInPlace}
 use Rattle.gp_dump.proofs.StepKinds.{Fits}
-use Rattle.std.proofs.lemmas.Bool.{le-leb, lt-ltb}
-use Rattle.gp_base.proofs.SmallLemmas.{each_append, each_map}
-use Rattle.gp_versions.proofs.OrderLemmas.{span_cmp_total}
 
 abbrev pub Pairwise : {X : Type 0} → (X → X → Type 0) → List X → Type 0
 Pairwise R [] = Unit {0}
@@ -48,11 +27,8 @@ Clear a b = a.id ≡ b.id → ((a.from < b.from) × (has_ended_by a.to b.from �
 turned : (a b : Span) → Clear a b → Clear b a
 turned a b c same = ⊎_elim (λ x. inr x) (λ x. inl x) (c (sym same))
 
-same_itself : (id : Identity) → same_identity id id ≡ true
-same_itself id = same_identity-is id id ∙ ap is_eq (tied_itself identity_cmp_total id)
-
 apart_clear : (a b : Span) → IsEndAbove a.from a.to → IsApart a b → Clear a b
-apart_clear a b whole apart same = inl (go a.to whole (apart (ap (λ id. same_identity id b.id) same ∙ same_itself b.id)))
+apart_clear a b whole apart same = inl (go a.to whole (apart (ap (λ id. same_identity id b.id) same ∙ same-itself b.id)))
   where
     go : (to : Option ℕ) → IsEndAbove a.from to → IsSomeAnd to (λ to. to ≤ b.from) → (a.from < b.from) × (has_ended_by to b.from ≡ true)
     go None w s = absurd s
@@ -155,7 +131,7 @@ below_after a b below clear = go (identity_cmp a.id b.id) refl below
         let same : a.id ≡ b.id = identity_cmp-exact a.id b.id e in
         let less : a.from < b.from = cmp_less a.from b.from l in
         let ends : has_ended_by a.to b.from ≡ true = ⊎_elim (λ x. x.1) (λ x. absurd (omega (arith, x.0, less))) (clear same) in
-        rw (ap (λ id. same_identity id b.id) same ∙ same_itself b.id, lt-ltb a.from b.from less) ends
+        rw (ap (λ id. same_identity id b.id) same ∙ same-itself b.id, lt-ltb a.from b.from less) ends
 
     go : (o : Ordering) → identity_cmp a.id b.id ≡ o → ordering_then o (nat_cmp a.from b.from) ≡ Less → (is_lt o || (same_identity a.id b.id && (nat_lt a.from b.from && has_ended_by a.to b.from))) ≡ true
     go Less e l = refl

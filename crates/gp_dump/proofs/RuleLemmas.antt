@@ -1,10 +1,7 @@
 -- What the rules of a log line say of its parts.
-use Rattle.std.proofs.Common.{◌≡◌, ℕ, ◌≤◌, List, length, length-append, Option, Some, ap, sym, ◌∙◌, arith}
-use Rattle.std.specs.Option.{option_map}
+use Rattle.gp_dump.proofs.Prelude.{◌≡◌, ℕ, ◌≤◌, List, length, length-append, Option, Some, ap, sym, ◌∙◌, arith, option_map, LogLine, log_line_of, log_line-takes}
 use Rattle.gp_dumpline.specs.declared.log_line.LogLine as code
-use Rattle.gp_dumpline.specs.Forms.{LogLine, log_line_of}
 use Rattle.gp_dumpline.specs.Views.{line_view}
-use Rattle.gp_dumpline.proofs.LogLineLaws.{log_line-takes}
 
 said-within : (text : List ℕ) (l : LogLine) → log_line_of text ≡ Some l → length l.said ≤ length text
 said-within text l found = let t = log_line-takes text l found in omega (arith, ap length t.is, length-append {A = ℕ})

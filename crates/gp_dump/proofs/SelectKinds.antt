@@ -1,31 +1,19 @@
 -- The rows that a query of the right types gives fit the columns that its types agree with.
-use Rattle.std.proofs.Common.{◌≡◌, ℕ, zero, suc, ◌+◌, true, true≢false, List, [], ◌∷◌, ◌++◌, length, map, get_or, Option, Some, None, is_some, option_and_then, unwrap_or, slice_get, refl, sym, ap, subst, ◌∙◌, arith, append_assoc, append-nil, length-append}
-use Rattle.std.specs.List.{list_all}
+use Rattle.gp_dump.proofs.Prelude.{◌≡◌, ℕ, zero, suc, ◌+◌, true, true≢false, List, [], ◌∷◌, ◌++◌, length, map, get_or, Option, Some, None, slice_get, refl, sym, ap, subst, ◌∙◌, arith, append_assoc, length-append, list_all, Cell, Column, Kind, Table, is_user_cell, Bytes, Term, Item, values, TermType, Scope, columns_of, scope_behind, scope_of, kind_type, agrees, operands_agree, type_of, table_fault, kind_types, all_agree, cells_agree, expr_of, number_of_table, term_is_valid, items_are_valid, holds_if, and_parts, same_Some}
+use Rattle.std.proofs.Common.{is_some, option_and_then, unwrap_or, append-nil}
 use Rattle.std.specs.Option.{option_map_or}
 use Rattle.std.proofs.lemmas.List.{get_or_at}
-use Rattle.gp_base.specs.declared.cell.Cell.{Cell}
 use Rattle.gp_base.specs.declared.cell.Cell.TheVariants as cell
-use Rattle.gp_base.specs.declared.table.Column.{Column}
-use Rattle.gp_base.specs.declared.table.Kind.{Kind}
 use Rattle.gp_base.specs.declared.table.Kind.TheVariants as kind
-use Rattle.gp_base.specs.declared.table.Table.{Table}
 use Rattle.gp_base.specs.Catalogs.{place_of}
-use Rattle.gp_base.specs.UserCells.{is_user_cell}
 use Rattle.gp_grammar.specs.Syntax as y
-use Rattle.gp_grammar.specs.Syntax.{Bytes, Term, Item, Items}
-use Rattle.gp_algebra.specs.Answers.{values}
-use Rattle.gp_check.specs.declared.types.TermType.{TermType}
-use Rattle.gp_check.specs.Scopes.{Scope, columns_of, scope_behind, scope_of}
-use Rattle.gp_check.specs.Typing.{kind_type, cell_type, agrees, operands_agree, type_of}
-use Rattle.gp_check.specs.Faults.{table_fault, kind_types, scope_types, items_types, all_agree, cells_agree, width_behind}
+use Rattle.gp_grammar.specs.Syntax.{Items}
+use Rattle.gp_check.specs.Typing.{cell_type}
+use Rattle.gp_check.specs.Faults.{scope_types, items_types, width_behind}
 use Rattle.gp_algebra.specs.Statements.{columns_behind}
-use Rattle.gp_check.specs.Meaning.{expr_of, exprs_of, number_of_table}
-use Rattle.gp_check.specs.Valid.{term_is_valid, items_are_valid}
-use Rattle.gp_check.proofs.FittingLemmas.{holds_if}
+use Rattle.gp_check.specs.Meaning.{exprs_of}
 use Rattle.gp_dump.specs.Dumps.{is_of_kind, fits_columns}
 use Rattle.gp_dump.proofs.KindLemmas.{FitsAt, FitsScope, agreeing_fits, fits_type, kind_fits, value_fits}
-use Rattle.std.proofs.lemmas.Bool.{and_parts}
-use Rattle.std.proofs.lemmas.Option.{same_Some}
 
 -- ---- rows
 

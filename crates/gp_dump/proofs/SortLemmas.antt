@@ -1,29 +1,16 @@
 -- Lemmas of the order of row lines. No two spans of a table tie, so there is one order of them: the spans at sorted places are the result of
 -- insertion sort.
-use Rattle.std.proofs.Common.{◌≡◌, ◌⊎◌, inl, inr, ℕ, zero, suc, ◌+◌, ◌<◌, ◌≤◌, true, false, cond, List, [], ◌∷◌, length, map, Option, Some, None, IsSomeAnd, refl, sym, ap, subst, ◌∙◌, arith, add-one}
-use Rattle.std.specs.List.{All, AllByRecursion, range_with_len, slice_get, sum_by}
-use Rattle.std.specs.List.Sorted.{IsPermutation, IsSorted, IsSortedByKey}
-use Rattle.std.specs.Option.{option_cmp}
-use Rattle.std.specs.Ordering.{is_eq, is_le, nat_cmp, ordering_reverse, ordering_then}
-use Rattle.std.specs.declared.cmp.Ordering.{Ordering}
-use Rattle.std.specs.declared.cmp.Ordering.TheVariants.{Less, Equal, Greater}
+use Rattle.gp_dump.proofs.Prelude.{◌≡◌, ◌⊎◌, inl, inr, ℕ, zero, suc, ◌+◌, ◌<◌, ◌≤◌, true, false, cond, List, [], ◌∷◌, length, map, Option, Some, None, IsSomeAnd, refl, sym, ap, subst, ◌∙◌, arith, add-one, AllByRecursion, range_with_len, IsPermutation, IsSortedByKey, option_cmp, is_eq, is_le, nat_cmp, ordering_reverse, ordering_then, Ordering, Less, Equal, Greater, cases_Bool, false≢true, tied_itself, length-map, sum_by-cons, exact_unsigned, identity_cmp, same_identity, identity_cmp-exact, insert_sorted, sorted_by, Span, span_cmp, AreWhole, IsApart, IsEndAbove, NoOverlap, span_cmp_total, same-itself}
+use Rattle.std.specs.List.{All, slice_get, sum_by}
+use Rattle.std.specs.List.Sorted.{IsSorted}
 use Rattle.std.specs.Cmp.{IsTotalOrder}
-use Rattle.std.proofs.lemmas.Bool.{cases_Bool, false≢true}
-use Rattle.std.proofs.lemmas.Cmp.{tied_itself, upto}
-use Rattle.std.proofs.lemmas.List.{get_or-map, length-map}
+use Rattle.std.proofs.lemmas.Cmp.{upto}
+use Rattle.std.proofs.lemmas.List.{get_or-map}
 use Rattle.std.proofs.lemmas.List.Elements.{All-from_recursion, recursion_from_All}
 use Rattle.std.proofs.lemmas.List.Sorted.{All-permutation, IsPermutation-cons, IsPermutation-map, IsPermutation-middle, IsPermutation-refl, IsPermutation-sym, IsPermutation-trans, sum_by-IsPermutation}
-use Rattle.std.proofs.lemmas.List.Sums.{sum_by-cons}
-use Rattle.std.proofs.lemmas.Map.Lookups.{exact_unsigned}
-use Rattle.gp_base.specs.Identities.{identity_cmp, same_identity}
-use Rattle.gp_base.specs.IdentityOrder.{identity_cmp-exact}
-use Rattle.gp_base.specs.Order.{insert_sorted, sorted_by}
-use Rattle.gp_versions.specs.declared.span.Span.{Span}
-use Rattle.gp_versions.specs.Spans.{span_cmp}
-use Rattle.gp_versions.specs.TableSpans.{AreWhole, IsApart, IsEndAbove, NoOverlap}
-use Rattle.gp_versions.proofs.OrderLemmas.{places_total, span_cmp_total}
-use Rattle.gp_versions.proofs.SameLemmas.{same-itself}
+use Rattle.gp_versions.proofs.OrderLemmas.{places_total}
 use Rattle.gp_base.proofs.OrderLemmas.{equal_from_is_eq, gt_from_le, le_from_gt, le_from_lt_turned, le_turned}
+use Rattle.gp_versions.proofs.PlaceLemmas.{all-range}
 
 -- ---- results of a comparison
 
@@ -248,10 +235,6 @@ few-by (Some s) spans apart are-whole = few-tied s spans apart are-whole
 
 -- ---- the spans at places
 
-range-within : (n first count : ℕ) → first + count ≤ n → AllByRecursion (λ place. place < n) (range_with_len first count)
-range-within n first zero within = tt
-range-within n first (suc count) within = (omega (arith, within), range-within n (first + 1) count (omega (arith, within)))
-
 spans-behind : (all spans : List Span) (at : ℕ) → ((i : ℕ) → slice_get all (at + i) ≡ slice_get spans i) → map (slice_get all) (range_with_len at (length spans)) ≡ somes spans
 spans-behind all [] at are = refl
 spans-behind all (span ∷ spans) at are =
@@ -293,4 +276,4 @@ spans-in-order spans places apart are-whole moved sorted =
 -- there is a span at each place
 pub places-within : (spans : List Span) (places : List ℕ) → IsPermutation (range_with_len 0 (length spans)) places → All (λ place. place < length spans) places
 places-within spans places moved =
-    All-permutation (λ place. place < length spans) (range_with_len 0 (length spans)) places moved (All-from_recursion (λ place. place < length spans) (range_with_len 0 (length spans)) (range-within (length spans) 0 (length spans) (omega arith)))
+    All-permutation (λ place. place < length spans) (range_with_len 0 (length spans)) places moved (All-from_recursion (λ place. place < length spans) (range_with_len 0 (length spans)) (all-range (length spans) 0 (length spans) (omega arith)))

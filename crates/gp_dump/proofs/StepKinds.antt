@@ -1,46 +1,32 @@
 -- A checked statement keeps rows that fit the columns of their tables and have identities that can be read from their texts.
-use Rattle.std.proofs.Common.{◌≡◌, ◌<◌, ◌≤◌, ℕ, suc, ◌+◌, Bool, true, false, true≢false, ◌&&◌, ◌==◌, nat_lt, List, [], ◌∷◌, ◌++◌, length, map, get_or, ◌⊎◌, inl, inr, ⊎_elim, bytes_eq, Option, Some, None, slice_get, if◌then◌else◌, refl, sym, ap, subst, ◌∙◌, arith, append_assoc, length-append}
-use Rattle.std.specs.Option.{option_or}
-use Rattle.std.specs.List.{list_all, list_any, cons_option, AllByRecursion}
-use Rattle.std.proofs.lemmas.Bool.Decides.{nat_tests}
-use Rattle.std.proofs.lemmas.Option.{slice_get_cases}
-use Rattle.gp_base.specs.declared.cell.Cell.{Cell}
+use Rattle.gp_dump.proofs.Prelude.{◌≡◌, ◌<◌, ◌≤◌, ℕ, suc, ◌+◌, Bool, true, false, true≢false, ◌&&◌, ◌==◌, nat_lt, List, [], ◌∷◌, ◌++◌, length, map, get_or, ◌⊎◌, inl, inr, ⊎_elim, Option, Some, None, slice_get, if◌then◌else◌, refl, sym, ap, subst, ◌∙◌, arith, append_assoc, length-append, option_or, list_all, list_any, cons_option, AllByRecursion, nat_tests, slice_get_cases, Cell, MAX_NODES, Column, Kind, Table, Annotations, Annotated, Database, is_user_cell, Identity, identity, nodes, command_shape, passed_limit, Bytes, Item, Command, value, values, Place, Scope, columns_of, only_place, place_behind, resolution, scope_behind, scope_of, column_type, kind_type, operands_agree, type_of, all_agree, cells_agree, first_refusal, kind_types, query_tables_fault, table_fault, expr_of, number_of_table, meant_statement, is_valid, items_are_valid, holds_if, known, none_of, each_filter, each_weaker, IsReadable, and_parts, eqb-true, ltb-false, or_parts, each_append, each_map}
+use Rattle.std.proofs.Common.{bytes_eq}
 use Rattle.gp_base.specs.declared.refusal.Refusal.TheVariants.{E07, E15}
-use Rattle.gp_base.specs.declared.row_id.TheConstants.{MAX_NODES}
-use Rattle.gp_base.specs.declared.table.Column.{Column}
-use Rattle.gp_base.specs.declared.table.Kind.{Kind}
-use Rattle.gp_base.specs.declared.table.Table.{Table}
 use Rattle.gp_base.specs.declared.token.Token.TheVariants.{Updated}
-use Rattle.gp_base.specs.Annotated.{Annotations, Annotated, Database}
-use Rattle.gp_base.specs.UserCells.{is_user_cell}
-use Rattle.gp_base.specs.Identities.{Identity, identity, no_sources, nodes}
+use Rattle.gp_base.specs.Identities.{no_sources}
 use Rattle.gp_grammar.specs.declared.limits.TheConstants.{MAX_BRANCHES, MAX_COLUMNS, MAX_FROM, MAX_VALUES}
 use Rattle.gp_grammar.specs.Limits as l
-use Rattle.gp_grammar.specs.Limits.{Limit, Shape, command_shape, passed_limit, query_shape, some_above}
+use Rattle.gp_grammar.specs.Limits.{Limit, Shape, query_shape, some_above}
 use Rattle.gp_grammar.specs.Syntax as y
-use Rattle.gp_grammar.specs.Syntax.{Bytes, SetTerm, Item, Block, Query, Command}
+use Rattle.gp_grammar.specs.Syntax.{SetTerm, Block, Query}
 use Rattle.gp_expr.specs.Expressions as e
 use Rattle.gp_expr.specs.Expressions.{Cond}
-use Rattle.gp_expr.specs.Values.{passes, value}
-use Rattle.gp_algebra.specs.Answers.{Element, answer, answer_from, choices, chosen, joined, values}
+use Rattle.gp_expr.specs.Values.{passes}
+use Rattle.gp_algebra.specs.Answers.{Element, answer, answer_from, choices, chosen, joined}
 use Rattle.gp_algebra.specs.Effects.{assigned, assigned_from, changed, given_from, is_over_nodes, made, set_for, set_or, step, with_rows}
 use Rattle.gp_algebra.specs.Statements.{SetExpr}
 use Rattle.gp_algebra.specs.Fitting.{is_countable}
-use Rattle.gp_check.specs.declared.place.Place.{Place}
-use Rattle.gp_check.specs.Scopes.{Scope, columns_of, only_place, place_behind, resolution, scope_behind, scope_of, target_scope}
-use Rattle.gp_check.specs.Typing.{column_type, kind_type, operands_agree, type_of}
-use Rattle.gp_check.specs.Faults.{agree_with, all_agree, block_columns_fault, block_tables_fault, block_types, cells_agree, first_fault, first_refusal, items_fault, kind_types, query_is_typed, query_tables_fault, set_fault, set_is_typed, set_name, table_fault, unless, widths_agree, repeated_set}
-use Rattle.gp_check.specs.Meaning.{branch_of, column_number, expr_of, number_of_table, select_of, set_expr_of, meant_statement, where_of}
-use Rattle.gp_check.specs.Valid.{block_is_valid, condition_is_valid, is_valid, items_are_valid, set_is_valid}
-use Rattle.gp_check.proofs.FittingLemmas.{holds_if, known, none_of}
-use Rattle.gp_machine.proofs.Distinct.{each_filter, each_weaker, none_each}
-use Rattle.gp_dumpline.specs.Rows.{AreReadable, IsPart, IsReadable}
+use Rattle.gp_check.specs.Scopes.{target_scope}
+use Rattle.gp_check.specs.Faults.{agree_with, block_columns_fault, block_tables_fault, block_types, first_fault, items_fault, query_is_typed, set_fault, set_is_typed, set_name, unless, widths_agree, repeated_set}
+use Rattle.gp_check.specs.Meaning.{branch_of, column_number, select_of, set_expr_of, where_of}
+use Rattle.gp_check.specs.Valid.{block_is_valid, condition_is_valid, set_is_valid}
+use Rattle.gp_machine.proofs.Distinct.{none_each}
+use Rattle.gp_dumpline.specs.Rows.{AreReadable, IsPart}
 use Rattle.gp_dumpline.specs.declared.identity.TheConstants.{MAX_PART}
 use Rattle.gp_dump.specs.Dumps.{fits_columns, is_of_kind}
 use Rattle.gp_dump.proofs.KindLemmas.{FitsAt, FitsScope, value_fits}
 use Rattle.gp_dump.proofs.SelectKinds.{agreeing, fits_length, given_fits, items_have, named, row_fits, row_fits_at, types_fit}
-use Rattle.std.proofs.lemmas.Bool.{and_parts, eqb-true, ltb-false, or_parts}
-use Rattle.gp_base.proofs.SmallLemmas.{each_append, each_flat_map, each_map}
+use Rattle.gp_base.proofs.SmallLemmas.{each_flat_map}
 
 -- ---- rows of a table
 

@@ -1,27 +1,16 @@
 -- Lemmas of the writer.
-use Rattle.std.proofs.Common.{◌≡◌, Bool, ℕ, zero, suc, ◌+◌, ◌<◌, List, [], ◌∷◌, ◌++◌, length, map, reverse, take, drop, get_or, Some, refl, sym, ap, ◌∙◌, arith, add-one, append_assoc}
-use Rattle.std.specs.List.{flat_map, range_with_len, slice_get}
-use Rattle.std.specs.List.Sorted.{IsPermutation, IsSortedByKey}
-use Rattle.std.specs.Option.{option_cmp}
-use Rattle.std.proofs.lemmas.List.{append-nil, length-map, length-reverse, map-append, reverse-append, reverse-reverse}
+use Rattle.gp_dump.proofs.Prelude.{◌≡◌, Bool, ℕ, zero, suc, ◌+◌, ◌<◌, List, [], ◌∷◌, ◌++◌, length, map, reverse, take, drop, get_or, Some, refl, sym, ap, ◌∙◌, arith, add-one, append_assoc, flat_map, range_with_len, IsPermutation, IsSortedByKey, option_cmp, append-nil, length-map, length-reverse, map-append, reverse-append, reverse-reverse, Table, sorted_by, Span, Versions, span_cmp, AreWhole, NoOverlap, tables_in, entry_view, log_view, count_text, end_text, entry_text, header, section_text, span_text, span_cmp_total}
+use Rattle.std.specs.List.{slice_get}
 use Rattle.std.proofs.lemmas.List.Concat.{flat_map-append}
 use Rattle.std.proofs.lemmas.List.Sorted.{length_permutation}
-use Rattle.gp_base.specs.declared.table.Table.{Table}
-use Rattle.gp_base.specs.Order.{sorted_by}
-use Rattle.gp_versions.specs.declared.span.Span.{Span}
-use Rattle.gp_versions.specs.Spans.{Versions, span_cmp}
-use Rattle.gp_versions.specs.TableSpans.{AreWhole, NoOverlap}
 use Rattle.gp_machine.specs.Entries as m
 use Rattle.gp_log.specs.declared.entry.Entry.{Entry}
-use Rattle.gp_log.specs.LogFacts.{tables_in}
-use Rattle.gp_log.specs.Logs.{entry_view, log_view}
-use Rattle.gp_dumpline.specs.Texts.{count_text, end_text, entry_text, header, section_text, span_text}
 use Rattle.gp_dump.specs.Dumps.{dump_text, with_newline, sections_texts}
 use Rattle.gp_dump.specs.WholeDumps.{dump_with}
 use Rattle.gp_dump.specs.Views.{tables_view}
 use Rattle.gp_dump.specs.Writing.{found_text, log_line_text, ordered, place_text, row_line_text, section_texts}
 use Rattle.gp_dump.proofs.SortLemmas.{somes, spans-in-order, permutation-sorted}
-use Rattle.gp_versions.proofs.OrderLemmas.{span_cmp_total}
+use Rattle.gp_log.proofs.CountLemmas.{log_view-length}
 
 -- ---- row lines
 
@@ -117,9 +106,6 @@ log-text : (entries : List Entry) → flat_map with_newline (map entry_text (map
 log-text [] = refl
 log-text (entry ∷ entries) = ap (λ (rest : List ℕ). log_line_text entry ++ rest) (log-text entries)
 
-view-length : (entries : List Entry) → length (log_view entries) ≡ length entries
-view-length entries = length-map (reverse entries) entry_view ∙ length-reverse entries
-
 -- all that is written
 pub whole-text : (second : Bool) (entries : List Entry) (versions : List Versions)
     → ((([] ++ (with_newline (header second) ++ with_newline (count_text (length entries)))) ++ flat_map log_line_text entries) ++ flat_map with_newline (sections_texts (tables_in (log_view entries)) (ordered versions))) ++ with_newline end_text
@@ -134,6 +120,6 @@ whole-text second entries versions =
     let behind : flat_map with_newline (sections ++ end_text ∷ []) ≡ flat_map with_newline sections ++ last = flat_map-append with_newline sections (end_text ∷ []) ∙ ap (λ (text : List ℕ). flat_map with_newline sections ++ text) (append-nil last) in
     let body : flat_map with_newline (map entry_text (reverse (log_view entries)) ++ (sections ++ end_text ∷ [])) ≡ log ++ (flat_map with_newline sections ++ last) =
     flat_map-append with_newline (map entry_text (reverse (log_view entries))) (sections ++ end_text ∷ []) ∙ (λ i. log-is i ++ behind i) in
-    let number : with_newline (count_text (length (log_view entries))) ≡ count = ap (λ (n : ℕ). with_newline (count_text n)) (view-length entries) in
+    let number : with_newline (count_text (length (log_view entries))) ≡ count = ap (λ (n : ℕ). with_newline (count_text n)) (log_view-length entries) in
     append_assoc ((head ++ count) ++ log) (flat_map with_newline sections) last ∙ append_assoc (head ++ count) log (flat_map with_newline sections ++ last) ∙ append_assoc head count (log ++ (flat_map with_newline sections ++ last))
     ∙ sym (λ i. head ++ (number i ++ body i))

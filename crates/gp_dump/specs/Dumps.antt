@@ -38,7 +38,7 @@ with_newline text = text ++ newline
 
 -- the sections of tables, each of its name, then its row lines
 abbrev pub sections_texts : List Table → List (List Span) → List (List ℕ)
-sections_texts tables lists = flat_map (λ (own : Table × List Span). section_text own.0.name (length own.1) ∷ map span_text own.1) (zip tables lists)
+sections_texts tables lists = flat_map (λ (pair : Table × List Span). section_text pair.0.name (length pair.1) ∷ map span_text pair.1) (zip tables lists)
 
 -- the lines, in the first format or in the second: the log, oldest entry first, then each table in order of creation
 abbrev pub texts_of : Bool → Dump → List (List ℕ)

@@ -1,6 +1,7 @@
 pub mod Lines
 pub mod Dumps
 pub mod WholeDumps
+pub mod Answerable
 pub mod Rules
 pub mod Verdicts
 pub mod Views

@@ -4,7 +4,7 @@ ghost use Rattle.std.specs.Prelude.{◌≡◌};
 ghost use Rattle.gp_dump.specs.Reading.{line_stop, stop_at};
 
 use gp_base::NoMemory;
-use std::alloc::{AllocError, AllocFailed};
+use std::alloc::AllocFailed;
 
 /// Why a line cannot be the next of a log.
 #[derive(Clone, Copy)]
@@ -72,17 +72,6 @@ impl From<NoMemory> for DumpStop {
     ghost from_gives = { λ _ e. e ≡ stop.NoMemory };
 
     fn from(_error: NoMemory) -> DumpStop {
-        DumpStop::NoMemory
-    }
-}
-
-impl From<AllocError> for DumpStop {
-    ghost use Rattle.std.specs.Prelude.{◌≡◌};
-    ghost use Rattle.gp_dump.specs.declared.error.DumpStop.TheVariants as stop;
-
-    ghost from_gives = { λ _ e. e ≡ stop.NoMemory };
-
-    fn from(_error: AllocError) -> DumpStop {
         DumpStop::NoMemory
     }
 }

@@ -12,6 +12,7 @@ ghost use Rattle.gp_base.specs.declared.limit.TheConstants.{MAX_SPANS};
 ghost use Rattle.gp_versions.specs.declared.span.Span as spec;
 ghost use Rattle.gp_versions.specs.TableSpans.{AreWhole, NoOverlap};
 ghost use Rattle.gp_dump.specs.declared.dump.TheConstants.{MAX_DUMP_LENGTH};
+ghost use Rattle.gp_dump.specs.Answerable.{as_dump};
 ghost use Rattle.gp_dump.specs.Dumps as d;
 ghost use Rattle.gp_dump.specs.Dumps.{is_in_place, spans_in};
 ghost use Rattle.gp_dump.specs.WholeDumps.{IsDump};
@@ -319,21 +320,17 @@ fn read_end(rest: Rest<'_>) -> Result<(), DumpStop>
 }
 
 /// The lines of a dump in order: the log, then the tables.
-fn read_lines(alloc: Global, bytes: &[u8]) -> Result<Dump, DumpStop>
+fn read_lines(alloc: Global, bytes: &[u8]) -> Result<(Log, Vec<VersionTable>), DumpStop>
     requires { length bytes.now ≤ MAX_DUMP_LENGTH }
-    ensures exact { Continues result (λ dump. Holds (dump_view dump)) (verdict_on bytes.now) }
-    ensures tables { IfOk result (λ dump. length dump.versions ≡ length (tables dump.log)) }
-    ensures valid { IfOk result (λ dump. tables_are_valid (tables dump.log) ≡ true) }
+    ensures exact { Continues result (λ x. Holds (as_dump x.0 x.1.items)) (verdict_on bytes.now) }
+    ensures valid { IfOk result (λ x. tables_are_valid (tables x.0) ≡ true) }
 {
     let (second, rest) = read_header(Rest { bytes, number: 1 })?;
     let (count, rest) = read_count(rest)?;
     let (log, rest) = read_log(alloc, second, count, rest)?;
     let (tables, rest) = read_tables(alloc, &log, rest)?;
     read_end(rest)?;
-    Ok(Dump {
-        log,
-        versions: Sequence::from_vec(tables),
-    })
+    Ok((log, tables))
 }
 
 /// Reads a dump, or gives its first fault: the number of the rule that fails first, and the number of its line. Rules are
@@ -342,8 +339,8 @@ pub fn read_dump(alloc: Global, bytes: &[u8]) -> Result<Dump, DumpStop>
     requires { length bytes.now ≤ MAX_DUMP_LENGTH }
     ensures exact { Continues result (λ dump. Holds (dump_view dump)) (verdict_on bytes.now) }
     ensures rules { IfOk result (λ dump. IsDump (dump_view dump)) }
-    ensures tables { IfOk result (λ dump. length dump.versions ≡ length (tables dump.log)) }
-    ensures valid { IfOk result (λ dump. tables_are_valid (tables dump.log) ≡ true) }
 {
-    read_lines(alloc, bytes)
+    let (log, tables) = read_lines(alloc, bytes)?;
+    let versions = Sequence::from_vec(tables);
+    Ok(Dump { log, versions })
 }
