@@ -1,19 +1,10 @@
 -- Composed programs are well built.
-use Rattle.std.proofs.Common.{◌≡◌, ℕ, zero, suc, ◌+◌, ◌<◌, ◌≤◌, true, false, cond, List, [], ◌∷◌, ◌++◌, refl, sym, ap, ◌∙◌, subst, arith, Option, Some, None}
-use Rattle.std.specs.Prelude.{◌-◌, ◌==◌}
-use Rattle.std.specs.List.{list_all}
-use Rattle.gp_base.specs.declared.table.Table.{Table}
+use Rattle.gp_compose.proofs.Prelude.{◌≡◌, ℕ, zero, suc, ◌+◌, ◌<◌, ◌≤◌, true, false, cond, List, [], ◌∷◌, ◌++◌, refl, sym, ap, ◌∙◌, subst, arith, Option, Some, None, ◌==◌, list_all, Table, Select, Statement, target, width_of, Cond, select_fits, statement_fits, Query, QueryStep, AreAfter, AreRising, AreSteps, IsTableProgram, IsWellBuilt, is_sound, numbers_with, reads_only, steps_read, step_table, Log, query_of, rewritten, none-some, same_Some, and_from, eqb-true}
+use Rattle.std.specs.Prelude.{◌-◌}
 use Rattle.gp_algebra.specs.Statements as s
-use Rattle.gp_algebra.specs.Statements.{Select, Statement, target, width_of}
-use Rattle.gp_expr.specs.Expressions.{Cond}
 use Rattle.gp_expr.specs.ExpressionForms.{cond_is_simple}
-use Rattle.gp_algebra.specs.Fitting.{select_fits, statement_fits}
 use Rattle.gp_algebra.specs.AnnotatedQueries as q
-use Rattle.gp_algebra.specs.AnnotatedQueries.{Query, QueryStep}
-use Rattle.gp_algebra.specs.QueryForms.{AreAfter, AreRising, AreSteps, HasSteps, IsTable, IsTableProgram, IsWellBuilt, is_sound, numbers_with, reads_only, steps_read}
-use Rattle.gp_algebra.specs.AnnotatedQueries.{step_table}
-use Rattle.gp_machine.specs.Entries.{Log}
-use Rattle.gp_rewrite.specs.Rewriting.{query_of, rewritten}
+use Rattle.gp_algebra.specs.QueryForms.{HasSteps, IsTable}
 use Rattle.gp_rewrite.proofs.FitLemmas.{delete_is_simple, update_is_simple}
 use Rattle.gp_rewrite.proofs.FormLemmas.{query_answers, rewritten_step}
 use Rattle.gp_rewrite.proofs.ReadLemmas.{query_reads, rewritten_reads}
@@ -23,8 +14,6 @@ use Rattle.gp_compose.specs.StepForms.{is_target, steps_of}
 use Rattle.gp_compose.specs.Composing.{looking, looking_program, published_table}
 use Rattle.gp_compose.proofs.ComposedLemmas.{writes_is}
 use Rattle.gp_compose.proofs.StepLists.{AreWithin, Stands, here, read_append, rising_append, sound_append, stands_among, stands_behind, stands_front, stands_table, steps_append, within_append}
-use Rattle.std.proofs.lemmas.Option.{none-some, same_Some}
-use Rattle.std.proofs.lemmas.Bool.{and_from, eqb-true}
 
 plus_zero : (k : ℕ) → k + 0 ≡ k
 plus_zero k = omega arith

@@ -1,18 +1,10 @@
 -- The entry at a place of a log, and what the log says of the entries up to it.
-use Rattle.std.proofs.Common.{◌≡◌, ℕ, suc, ◌+◌, Bool, true, false, cond, List, [], ◌∷◌, ◌++◌, take, drop, refl, sym, ap, ◌∙◌, arith}
-use Rattle.std.specs.Prelude.{◌&&◌, ◌==◌, Option, Some, None, slice_get}
-use Rattle.gp_base.specs.declared.table.Table.{Table}
-use Rattle.gp_algebra.specs.Statements.{Statement}
-use Rattle.gp_algebra.specs.Fitting.{statement_fits}
+use Rattle.gp_compose.proofs.Prelude.{◌≡◌, ℕ, suc, ◌+◌, Bool, true, false, cond, List, [], ◌∷◌, ◌++◌, take, refl, sym, ap, ◌∙◌, arith, ◌&&◌, ◌==◌, slice_get, Table, Statement, statement_fits, statement_at, statement_count, statements_fit, entry_view, log_view, Entry, eq_itself, and_parts}
+use Rattle.std.proofs.Common.{drop}
+use Rattle.std.specs.Prelude.{Option, Some, None}
 use Rattle.gp_machine.specs.Entries as m
-use Rattle.gp_machine.specs.Entries.{statement_at, statement_count}
 use Rattle.gp_log.proofs.FindingLemmas.{found-behind, log-cut}
-use Rattle.gp_log.specs.LogFitting.{statements_fit}
-use Rattle.gp_log.specs.Logs.{entry_view, log_view}
-use Rattle.gp_log.specs.declared.entry.Entry.{Entry}
 use Rattle.gp_compose.specs.Composition.{own_fits, own_statement, ran_more}
-use Rattle.gp_base.proofs.SmallLemmas.{eq_itself}
-use Rattle.std.proofs.lemmas.Bool.{and_parts}
 
 -- ---- statements
 

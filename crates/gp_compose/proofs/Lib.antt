@@ -1,3 +1,4 @@
+pub mod Prelude
 pub mod Agreement
 pub mod BuiltLemmas
 pub mod ComposedLemmas

@@ -1,17 +1,5 @@
 -- What stands for a table of a COMMIT gives what the transaction published there.
-use Rattle.std.proofs.Common.{◌≡◌, ℕ, suc, true, false, List, ◌++◌, refl, sym, ap, ◌∙◌, map, Option, Some, None}
-use Rattle.std.specs.Prelude.{not}
-use Rattle.std.specs.List.{AllByRecursion, filter}
-use Rattle.gp_base.specs.declared.table.Table.{Table}
-use Rattle.gp_base.specs.Annotated.{Annotations, Annotated, Environment}
-use Rattle.gp_algebra.specs.Statements.{Statement}
-use Rattle.gp_algebra.specs.Fitting.{statement_fits}
-use Rattle.gp_algebra.specs.Statements.{width_of}
-use Rattle.gp_algebra.specs.AnnotatedMeaning.{Derived, meaning, scanned}
-use Rattle.gp_machine.specs.Entries.{Log}
-use Rattle.gp_machine.specs.Publishing.{was_written}
-use Rattle.gp_machine.specs.Runs.{at_commit, run}
-use Rattle.gp_rewrite.specs.Meaning.{AreAsWide, IsMonoid}
+use Rattle.gp_compose.proofs.Prelude.{◌≡◌, ℕ, suc, true, false, List, ◌++◌, refl, sym, ap, ◌∙◌, map, Option, Some, None, not, AllByRecursion, filter, Table, Annotations, Annotated, Environment, Statement, statement_fits, width_of, Derived, meaning, scanned, Log, was_written, at_commit, run, AreAsWide, IsMonoid}
 use Rattle.gp_compose.specs.Composed.{current, last_write, onto, published_query}
 use Rattle.gp_compose.proofs.ComposedLemmas.{current_is, step_rows, untouched}
 use Rattle.gp_compose.proofs.PublishedLists.{nothing_published, publish_means}

@@ -1,26 +1,18 @@
 -- The program of a state scans no version above the one that the state needs.
-use Rattle.std.proofs.Common.{◌≡◌, ℕ, zero, suc, ◌<◌, ◌≤◌, true, false, cond, List, [], ◌∷◌, ◌++◌, length, sym, subst, arith, Option, Some, None}
-use Rattle.std.specs.Prelude.{◌==◌, Contains}
-use Rattle.std.specs.List.{AllByRecursion}
+use Rattle.gp_compose.proofs.Prelude.{◌≡◌, ℕ, zero, suc, ◌<◌, ◌≤◌, true, false, cond, List, [], ◌∷◌, ◌++◌, length, sym, subst, arith, Option, Some, None, ◌==◌, AllByRecursion, Cond, Branch, Select, Statement, insert, insert_select, update, delete, read, target, Query, QueryStep, Log, log_of, statement_count, version_of, version_before, log_refusal, branch_of, made_of, made_onto, product_of, query_of, rewritten, selected_by, product_onto, union_onto, each_append}
+use Rattle.std.specs.Prelude.{Contains}
 use Rattle.gp_grammar.specs.Syntax as y
-use Rattle.gp_expr.specs.Expressions.{Cond}
 use Rattle.gp_algebra.specs.declared.plain.ScanAt.{ScanAt}
-use Rattle.gp_algebra.specs.Statements.{Branch, Select, Statement, insert, insert_select, update, delete, read, target}
 use Rattle.gp_algebra.specs.AnnotatedQueries as q
-use Rattle.gp_algebra.specs.AnnotatedQueries.{Query, QueryStep}
 use Rattle.gp_algebra.specs.Scans.{annotated_program_scans, annotated_query_scans, annotated_steps_scans}
-use Rattle.gp_machine.specs.Entries.{Entry, Log, log_of, statement_count, statement_version, version_of}
-use Rattle.gp_machine.specs.Points.{version_before}
+use Rattle.gp_machine.specs.Entries.{Entry, statement_version}
 use Rattle.gp_machine.specs.QuestionForms.{IsAsked, to_commit, to_statement, to_version}
-use Rattle.gp_machine.specs.Questions.{log_refusal, needed_version}
+use Rattle.gp_machine.specs.Questions.{needed_version}
 use Rattle.gp_machine.proofs.AskedLemmas.{asked}
 use Rattle.gp_log.specs.Sessions.{KeepsSessions}
 use Rattle.gp_log.proofs.KeptSessions.{read_before, rising}
-use Rattle.gp_rewrite.specs.Rewriting.{branch_of, made_of, made_onto, product_of, query_of, rewritten, selected_by}
-use Rattle.gp_rewrite.specs.RewritingForms.{product_onto, union_onto}
 use Rattle.gp_compose.specs.Composed.{composed, current, current_before, last_write, moved, onto, program_at, published_query, step_of, writes}
 use Rattle.gp_compose.specs.StepForms.{steps_of}
-use Rattle.gp_base.proofs.SmallLemmas.{each_append}
 
 -- ---- versions up to one
 

@@ -1,8 +1,7 @@
 -- Lists with a query for each table.
-use Rattle.std.proofs.Common.{◌≡◌, ℕ, List, length, map, sym, ◌∙◌}
+use Rattle.gp_compose.proofs.Prelude.{◌≡◌, ℕ, List, length, map, sym, ◌∙◌, Query}
 use Rattle.std.proofs.lemmas.List.{length-map}
 use Rattle.gp_algebra.specs.AnnotatedQueries as q
-use Rattle.gp_algebra.specs.AnnotatedQueries.{Query}
 use Rattle.gp_algebra.specs.QueryViews.{annotated_view}
 use Rattle.gp_algebra.specs.declared.annotated.AQuery.{AQuery}
 use Rattle.gp_compose.specs.Composition.{AreTables}

@@ -20,14 +20,8 @@ fn after_escape(text: &[u8]) -> Option<&[u8]>
     ensures { option_map (λ rest. rest.now) result ≡ after_escape text.now }
 {
     match text {
-        [] => None,
-        [first, ..] => {
-            if *first == BACKSLASH {
-                Some(text)
-            } else {
-                None
-            }
-        }
+        [first, ..] if *first == BACKSLASH => Some(text),
+        _ => None,
     }
 }
 
@@ -36,14 +30,8 @@ fn unescaped(field: &[u8]) -> Option<&[u8]>
     ensures { option_map (λ rest. rest.now) result ≡ unescaped field.now }
 {
     match field {
-        [] => Some(field),
-        [first, others @ ..] => {
-            if *first == BACKSLASH {
-                after_escape(others)
-            } else {
-                Some(field)
-            }
-        }
+        [first, others @ ..] if *first == BACKSLASH => after_escape(others),
+        _ => Some(field),
     }
 }
 

@@ -6,7 +6,7 @@ ghost use Rattle.csv.specs.Records.{fields_of};
 ghost use Rattle.gp_csv.specs.SheetForms.{Returns};
 ghost use Rattle.gp_csv.specs.Headings.{with_heading, heading_of, header_of, headings_from, is_taken, kind_of_suffix, name_len, heading_named};
 
-use crate::error::{BAD_HEADER, CsvStop, NOT_UTF8};
+use crate::error::{BAD_HEADER, CsvStop, NOT_UTF8, refused};
 use crate::record::are_utf8;
 use csv::ByteRecord;
 use gp_base::{Kind, Name, NoMemory, is_name};
@@ -130,24 +130,15 @@ pub(crate) fn read_header(alloc: Global, record: &ByteRecord) -> Result<Vec<Head
     ensures { Returns (λ headings. headings.items) result (header_of (fields_of record.now)) }
 {
     if !are_utf8(record) {
-        return Err(CsvStop::Refused {
-            c: NOT_UTF8,
-            number: 1,
-        });
+        return Err(refused(NOT_UTF8, 1));
     }
     if record.len() > MAX_COLUMNS {
-        return Err(CsvStop::Refused {
-            c: BAD_HEADER,
-            number: 1,
-        });
+        return Err(refused(BAD_HEADER, 1));
     }
     let mut headings = Vec::new(alloc);
     if add_fields(alloc, record, &mut headings)? {
         Ok(headings)
     } else {
-        Err(CsvStop::Refused {
-            c: BAD_HEADER,
-            number: 1,
-        })
+        Err(refused(BAD_HEADER, 1))
     }
 }

@@ -8,7 +8,7 @@ ghost use Rattle.gp_csv.specs.Packing.{begun, create_of, has_room, insert_text, 
 ghost use Rattle.gp_csv.specs.Scripts.{script_of};
 ghost use Rattle.gp_csv.specs.SheetForms.{ArePlainRows, Returns};
 
-use crate::error::{CsvStop, LONG_ROW, TOO_MANY};
+use crate::error::{CsvStop, LONG_ROW, TOO_MANY, refused};
 use crate::sheet::Sheet;
 use gp_base::{
     Column, Name, NoMemory, Row, Sequence, Table, append_all, text_of_pieces, write_row,
@@ -128,10 +128,7 @@ fn place(
     if has_room(line, tuple) {
         Ok(join(script, line, tuple)?)
     } else if line.inserts >= MAX_INSERTS {
-        Err(CsvStop::Refused {
-            c: TOO_MANY,
-            number,
-        })
+        Err(refused(TOO_MANY, number))
     } else {
         Ok(begin_line(script, prefix, line, tuple)?)
     }
@@ -151,16 +148,10 @@ fn put_row(
     ensures few { OnOk result (number ≤ MAX_ROWS + 1) }
 {
     if prefix.len().saturating_add(tuple.len()) > MAX_LINE_LENGTH {
-        return Err(CsvStop::Refused {
-            c: LONG_ROW,
-            number,
-        });
+        return Err(refused(LONG_ROW, number));
     }
     if number as usize > MAX_ROWS + 1 {
-        return Err(CsvStop::Refused {
-            c: TOO_MANY,
-            number,
-        });
+        return Err(refused(TOO_MANY, number));
     }
     place(script, prefix, number, line, tuple)
 }

@@ -8,7 +8,7 @@ ghost use Rattle.gp_csv.specs.Fields.{cells_from, is_int_field};
 ghost use Rattle.gp_csv.specs.SheetForms.{ArePlainRows, IsSheet, Returns};
 ghost use Rattle.gp_csv.specs.Sheets.{columns_from, inferred, sheet_row, rows_from, sheet_of, sheet_of_records, sheet_under};
 
-use crate::error::{BAD_CELL, BAD_HEADER, BAD_LENGTH, CsvStop, NOT_UTF8};
+use crate::error::{BAD_CELL, BAD_HEADER, BAD_LENGTH, CsvStop, NOT_UTF8, refused};
 use crate::field::{is_int_field, parse_cell};
 use crate::heading::{Heading, read_header};
 use crate::record::{are_utf8, read_records};
@@ -30,12 +30,7 @@ fn are_int_fields(place: usize, records: &[ByteRecord]) -> bool
     ensures { result ≡ list_all (λ row. is_int_field (field_at (fields_of row) place))
         records.now }
 {
-    for record in records {
-        if !is_int_field(record.get(place)) {
-            return false;
-        }
-    }
-    true
+    records.iter().all(|record| is_int_field(record.get(place)))
 }
 
 /// The type of a column whose heading has none.
@@ -117,10 +112,7 @@ fn read_cells(
     if add_cells(alloc, columns, record, &mut row)? {
         Ok(row)
     } else {
-        Err(CsvStop::Refused {
-            c: BAD_CELL,
-            number,
-        })
+        Err(refused(BAD_CELL, number))
     }
 }
 
@@ -135,16 +127,10 @@ fn read_row(
     ensures { Returns (λ row. row) result (sheet_row columns.now number (fields_of record.now)) }
 {
     if !are_utf8(record) {
-        return Err(CsvStop::Refused {
-            c: NOT_UTF8,
-            number,
-        });
+        return Err(refused(NOT_UTF8, number));
     }
     if record.len() != columns.len() {
-        return Err(CsvStop::Refused {
-            c: BAD_LENGTH,
-            number,
-        });
+        return Err(refused(BAD_LENGTH, number));
     }
     read_cells(alloc, columns, number, record)
 }
@@ -183,10 +169,7 @@ fn read_from(alloc: Global, records: &[ByteRecord]) -> Result<Sheet, CsvStop>
     ensures { Returns (λ sheet. sheet) result (sheet_of_records (map fields_of records.now)) }
 {
     match records {
-        [] => Err(CsvStop::Refused {
-            c: BAD_HEADER,
-            number: 1,
-        }),
+        [] => Err(refused(BAD_HEADER, 1)),
         [first, others @ ..] => {
             let headings = read_header(alloc, first)?;
             read_under(alloc, &headings, others)

@@ -1,9 +1,7 @@
 -- Merged programs are shaped, if the programs are.
 use Rattle.gp_explain.proofs.Prelude.{◌≡◌, ℕ, Bool, true, false, cond, List, [], ◌∷◌, refl, ◌∙◌, map, ◌&&◌, ◌==◌, list_all, and_parts, and_from, Table, Expr, Cond, substituted_each, Plain, scan, step, select, project, product, union, given, publish, PlainStep, PlainProgram, inlined, stays, settled, is_small, selected, projected, rebuilt, merged, program_inlined, has_item, table_is_spellable, expr_is_shaped, cond_is_shaped, query_is_shaped, step_is_shaped, is_shaped, both_follow}
 use Rattle.gp_explain.proofs.PlainShapes.{each_stays, same_items}
-
-both : {a b : Bool} → a ≡ true → b ≡ true → (a && b) ≡ true
-both {a = a} {b = b} x y = and_from a b x y
+use Rattle.gp_merge.proofs.ExpressionLemmas.{both}
 
 module _ (tables : List Table) where
   abbrev query_stays : Plain → Plain → Type 0

@@ -30,6 +30,7 @@ use Rattle.gp_machine.specs.Event.{refusal_of}
 use Rattle.gp_log.specs.Parameters.{parameters}
 use Rattle.gp_csv.specs.SheetForms.{is_cell_of, is_row_of}
 use Rattle.gp_base.proofs.SmallLemmas.{all_weaker}
+use Rattle.gp_txn.proofs.InsertLemmas.{given-length}
 
 abbrev pub Row : Type 0
 Row = Annotated (Unit {0})
@@ -75,10 +76,6 @@ checked-insert table rows all =
     rw (name, widths, types) refl
 
 -- ---- the rows that it makes
-
-pub given-length : (t k n : ℕ) (rows : List (List Cell)) → length (given_from unannotated t k n rows) ≡ length rows
-given-length t k n [] = refl
-given-length t k n (row ∷ rows) = ap suc (given-length t k (suc n) rows)
 
 pub given-cells : (t k n : ℕ) (rows : List (List Cell)) → map (λ (row : Row). row.cells) (given_from unannotated t k n rows) ≡ rows
 given-cells t k n [] = refl
@@ -171,14 +168,6 @@ not-written t (pair ∷ written) row by before =
     rw (nothing (same_identity pair.identity row.identity) (eqb pair.table 0) (other-identity pair.identity row.identity t by.0 before)) (not-written t written row by.1 before)
 
 -- ---- what a commit keeps
-
-pub keeps-all : {A : Type 0} (p : A → Bool) (xs : List A) → AllByRecursion (λ x. p x ≡ true) xs → filter p xs ≡ xs
-keeps-all p [] all = refl
-keeps-all p (x ∷ xs) all = rw all.0 (ap (λ (others : List _). x ∷ others) (keeps-all p xs all.1))
-
-pub keeps-none : {A : Type 0} (p : A → Bool) (xs : List A) → AllByRecursion (λ x. p x ≡ false) xs → filter p xs ≡ []
-keeps-none p [] all = refl
-keeps-none p (x ∷ xs) all = rw all.0 (keeps-none p xs all.1)
 
 pub unmarked-cells : (rows : List Row) → map (λ (row : Row). row.cells) (map unmarked rows) ≡ map (λ (row : Row). row.cells) rows
 unmarked-cells [] = refl

@@ -26,10 +26,11 @@ use Rattle.gp_log.specs.Parameters.{parameters}
 use Rattle.gp_log.specs.declared.limit.TheConstants.{MAX_STATEMENTS, MAX_STEPS, MAX_TRANSACTIONS}
 use Rattle.gp_txn.proofs.PairLemmas.{all-filter}
 use Rattle.gp_csv.specs.SheetForms.{is_row_of}
-use Rattle.gp_load.proofs.InsertLemmas.{IsBefore, IsBy, IsWritten, Row, all-mapped, checked-insert, given-before, given-by, given-cells, given-written, keeps-all, keeps-none, not-refused, not-written, unmarked-before, unmarked-cells, written-before, written-new}
+use Rattle.gp_load.proofs.InsertLemmas.{IsBefore, IsBy, IsWritten, Row, all-mapped, checked-insert, given-before, given-by, given-cells, given-written, not-refused, not-written, unmarked-before, unmarked-cells, written-before, written-new}
 use Rattle.std.proofs.lemmas.Bool.{lt-leb}
 use Rattle.gp_base.proofs.SmallLemmas.{each_append}
 use Rattle.gp_txn.proofs.RoomLemmas.{filter-few}
+use Rattle.gp_machine.proofs.Distinct.{filter_every, filter_none}
 
 abbrev pub Plain : Type 0
 Plain = State (Unit {0})
@@ -280,9 +281,9 @@ module _ (table : Table) (rows : List (List Cell)) (t k n most bound line : ℕ)
   kept-rows : merged (state.committed (versions_in state.entries)) own.seen.view (pairs own.seen.written) 0 ≡ own.seen.view 0
   kept-rows =
       let p : Row → Bool = λ row. not (test row) in
-      let old : filter p (newest state) ≡ newest state = keeps-all p (newest state) (all-mapped (λ (row : Row). test row ≡ false) (λ (row : Row). p row ≡ true) (λ row e. rw e refl) (newest state) old-rows) in
+      let old : filter p (newest state) ≡ newest state = filter_every p (newest state) (all-mapped (λ (row : Row). test row ≡ false) (λ (row : Row). p row ≡ true) (λ row e. rw e refl) (newest state) old-rows) in
       let mine : filter test (newest state ++ h.new) ≡ h.new =
-      filter-append test (newest state) h.new ∙ ap (λ (x : List Row). x ++ filter test h.new) (keeps-none test (newest state) old-rows) ∙ keeps-all test h.new h.wrote in
+      filter-append test (newest state) h.new ∙ ap (λ (x : List Row). x ++ filter test h.new) (filter_none test (newest state) old-rows) ∙ filter_every test h.new h.wrote in
       ap (λ (x : List Row). x ++ filter test (own.seen.view 0)) old ∙ ap (λ (x : List Row). newest state ++ filter test x) h.view ∙ ap (λ (x : List Row). newest state ++ x) mine ∙ sym h.view
 
   newest-is : newest done ≡ map unmarked (own.seen.view 0)

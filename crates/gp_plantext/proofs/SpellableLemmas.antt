@@ -1,16 +1,8 @@
 -- Lemmas of the tests of programs.
-use Rattle.std.proofs.Common.{◌≡◌, ℕ, Bool, true, false, leb, eqb, List, [], ◌∷◌, length, map, refl, ap, sym, ◌∙◌}
-use Rattle.std.specs.Prelude.{◌&&◌}
-use Rattle.std.specs.List.{list_all}
-use Rattle.std.specs.FinMap.{is_sorted}
-use Rattle.std.proofs.lemmas.Bool.{and_from, le-leb}
-use Rattle.gp_base.specs.declared.token.Token.{Token}
-use Rattle.gp_base.specs.declared.token.Token.TheVariants.{Inserted, Queried, Updated}
-use Rattle.gp_base.specs.Tokens.{Monomial, token_cmp, greatest_count, is_token, is_u32}
+use Rattle.gp_plantext.proofs.Prelude.{◌≡◌, ℕ, Bool, true, false, leb, eqb, List, [], ◌∷◌, length, map, refl, ap, sym, ◌∙◌, ◌&&◌, list_all, is_sorted, and_from, le-leb, Token, Inserted, Queried, Updated, Monomial, token_cmp, greatest_count, is_token, is_u32, expr_view, parts_of}
 use Rattle.gp_base.specs.MonomialForms.{IsMonomial, IsToken, ArePowers}
 use Rattle.gp_expr.specs.Expressions as e
 use Rattle.gp_expr.specs.declared.expr.Expr.{Expr}
-use Rattle.gp_expr.specs.Views.{expr_view, parts_of}
 use Rattle.gp_plantext.specs.Spellable.{power_is_spellable, monomial_is_spellable, expr_is_spellable, has_part, has_item}
 use Rattle.gp_plantext.specs.SpellableForms.{parts_are_spellable}
 

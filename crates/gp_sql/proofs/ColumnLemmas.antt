@@ -1,10 +1,7 @@
 -- What the names of columns mean in the rows of one source, or of two.
-use Rattle.std.proofs.Common.{◌≡◌, ℕ, zero, suc, ◌+◌, ◌<◌, Bool, cond, List, [], ◌∷◌, ◌++◌, drop, length, get_or, Some, refl, sym, ap, ◌∙◌, arith}
-use Rattle.std.specs.Prelude.{Option, ◌&&◌, ◌==◌}
-use Rattle.gp_base.proofs.SmallLemmas.{eq_itself, eq_from_same, eq_not, not_eq}
-use Rattle.gp_base.specs.declared.cell.Cell.{Cell}
+use Rattle.gp_sql.proofs.Prelude.{◌≡◌, ℕ, zero, suc, ◌+◌, ◌<◌, Bool, cond, List, [], ◌∷◌, ◌++◌, drop, length, get_or, Some, refl, sym, ap, ◌∙◌, arith, Option, ◌&&◌, ◌==◌, eq_itself, not_eq, Cell, column}
+use Rattle.gp_base.proofs.SmallLemmas.{eq_from_same, eq_not}
 use Rattle.gp_base.specs.declared.cell.Cell.TheVariants as cell
-use Rattle.gp_expr.specs.Values.{column}
 use Rattle.gp_sql.specs.declared.cell_type.CellType.{CellType}
 use Rattle.gp_sql.specs.Meaning.{Relation, Scope, cell_named, cell_of, cell_or, term_values}
 use Rattle.gp_sql.specs.NamedQueries.{columns_of, stored_terms}

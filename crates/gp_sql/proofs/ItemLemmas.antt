@@ -1,13 +1,8 @@
 -- The items of a SELECT, one behind the others.
-use Rattle.std.proofs.Common.{◌≡◌, ℕ, zero, suc, ◌+◌, ◌<◌, ◌≤◌, true, false, List, [], ◌∷◌, ◌++◌, map, drop, length, Some, pos, refl, sym, ap, ◌∙◌, append_assoc, append-nil, codes, arith}
-use Rattle.std.specs.Prelude.{Option, slice_get}
-use Rattle.std.proofs.lemmas.List.{drop_all}
-use Rattle.std.specs.Fmt.{decimal}
-use Rattle.std.specs.List.{concat}
-use Rattle.gp_base.specs.declared.cell.Cell.{Cell}
+use Rattle.gp_sql.proofs.Prelude.{◌≡◌, ℕ, zero, suc, ◌+◌, ◌<◌, ◌≤◌, true, false, List, [], ◌∷◌, ◌++◌, map, drop, length, Some, pos, refl, sym, ap, ◌∙◌, append_assoc, append-nil, arith, Option, slice_get, decimal, concat, Cell, Table}
+use Rattle.std.proofs.Common.{codes}
 use Rattle.gp_base.specs.declared.cell.Cell.TheVariants as cell
 use Rattle.gp_base.specs.declared.table.Column.{Column}
-use Rattle.gp_base.specs.declared.table.Table.{Table}
 use Rattle.gp_expr.specs.declared.expr.Expr.{Expr as Code}
 use Rattle.gp_expr.specs.SizeForms.{parts_size}
 use Rattle.gp_expr.specs.Sizes.{size}
@@ -174,11 +169,6 @@ cells-more due n x xs =
     ∙ ap (λ (due : List CellType). separator n ++ (text ++ (name_text n ++ named_behind [] (suc n) (cells_terms due xs)))) (drop-one n due)
     ∙ sym (concat-onto (separator n ∷ text ∷ name_text n ∷ []) rest)
 
-pub stored-more : (n : ℕ) (x : Column) (xs : List Column) → stored_text n (x ∷ xs) ≡ concat (separator n ∷ codes "\"" ∷ x.name ∷ codes "\"" ∷ name_text n ∷ []) ++ stored_text (suc n) xs
-stored-more n x xs =
-    ap (λ (z : List ℕ). separator n ++ (codes "\"" ++ (x.name ++ (codes "\"" ++ (name_text n ++ z))))) (append-nil (stored_text (suc n) xs))
-    ∙ sym (concat-onto (separator n ∷ codes "\"" ∷ x.name ∷ codes "\"" ∷ name_text n ∷ []) (stored_text (suc n) xs))
-
 -- ---- the parts of a new identity
 
 parts-more : (tables : List Table) (types : List CellType) (n : ℕ) (x : Code) (xs : List Code)
@@ -201,14 +191,6 @@ parts-less parts n x is =
     let here : parts_size (parts_of (drop n parts)) ≡ size (expr_view x) + parts_size (parts_of (drop (suc n) parts)) = ap (λ xs. parts_size (parts_of xs)) (drop-get parts n x is) in
     let next : parts_size (parts_of (drop (n + 1) parts)) ≡ parts_size (parts_of (drop (suc n) parts)) = ap (λ m. parts_size (parts_of (drop m parts))) (one-more n) in
     omega (arith, here, next)
-
--- where no item remains, what was appended is all
-pub loop-end : {X : Type 0} (all_text : ℕ → List X → List ℕ) (xs : List X) (n : ℕ) (out all : List ℕ) → all_text n [] ≡ [] → length xs ≤ n → out ++ all_text n (drop n xs) ≡ all → out ≡ all
-loop-end all_text xs n out all none past same =
-    sym (append-nil out)
-    ∙ ap (λ (z : List ℕ). out ++ z) (sym none)
-    ∙ ap (λ rest. out ++ all_text n rest) (sym (drop_all n xs past))
-    ∙ same
 
 -- ---- a loop over columns of a source
 

@@ -1,3 +1,4 @@
+pub mod Prelude
 pub mod CodeLemmas
 pub mod ColumnLemmas
 pub mod IdentityTexts

@@ -1,6 +1,5 @@
 -- Lists from a place on.
-use Rattle.std.proofs.Common.{◌≡◌, ◌+◌, ◌<◌, ℕ, zero, suc, List, [], ◌∷◌, drop, length, get_or, refl, sym, ap, arith, Some}
-use Rattle.std.specs.Prelude.{slice_get}
+use Rattle.gp_sql.proofs.Prelude.{◌≡◌, ◌+◌, ◌<◌, ℕ, zero, suc, List, [], ◌∷◌, drop, length, get_or, refl, sym, ap, arith, Some, slice_get}
 use Rattle.std.proofs.lemmas.Option.{same_Some}
 
 pub one-more : (n : ℕ) → n + 1 ≡ suc n

@@ -1,16 +1,7 @@
 -- A program of SQL with a name for each query gives the rows of the plain program that it is made of.
-use Rattle.std.proofs.Common.{◌≡◌, ℕ, suc, ◌<◌, ◌≤◌, Bool, true, false, cond, List, [], ◌∷◌, ◌++◌, take, drop, Some, None, refl, sym, ap, subst, ◌∙◌, arith}
-use Rattle.std.specs.Prelude.{Option, is_some, ◌||◌, ◌==◌, slice_get}
-use Rattle.std.specs.List.{AllByRecursion}
-use Rattle.std.proofs.lemmas.Bool.{and_parts}
-use Rattle.gp_base.proofs.SmallLemmas.{eq_itself, not_eq}
-use Rattle.gp_base.specs.declared.cell.Cell.{Cell}
-use Rattle.gp_base.specs.declared.table.Table.{Table}
-use Rattle.gp_expr.specs.Expressions.{Expr, Cond}
+use Rattle.gp_sql.proofs.Prelude.{◌≡◌, ℕ, suc, ◌<◌, ◌≤◌, Bool, true, false, cond, List, [], ◌∷◌, ◌++◌, take, drop, Some, None, refl, sym, ap, subst, ◌∙◌, arith, Option, is_some, ◌||◌, ◌==◌, slice_get, AllByRecursion, and_parts, eq_itself, not_eq, Cell, Table, Expr, Cond, Plain, PlainStep, PlainProgram, StepRows, meaning, width_of, Span}
 use Rattle.gp_algebra.specs.Plain as p
-use Rattle.gp_algebra.specs.Plain.{Plain, PlainStep, PlainProgram, StepRows, no_steps, with_step, meaning, steps_meaning, program_meaning}
-use Rattle.gp_algebra.specs.Statements.{width_of}
-use Rattle.gp_versions.specs.declared.span.Span.{Span}
+use Rattle.gp_algebra.specs.Plain.{no_steps, with_step, steps_meaning, program_meaning}
 use Rattle.gp_sql.specs.declared.cell_type.CellType.{CellType}
 use Rattle.gp_sql.specs.Sql as s
 use Rattle.gp_sql.specs.Sql.{NamedQuery, Source}
@@ -24,15 +15,15 @@ use Rattle.gp_sql.proofs.PublishLemmas.{is-published, published-value, written-v
 use Rattle.gp_sql.proofs.QueryLemmas.{all-value, both-parts, given-value, product-value, project-value, scan-value, select-value, stored_relation, union-value, width}
 use Rattle.gp_sql.proofs.TypeLemmas.{HaveTypes, StepsHave, query-has}
 
-selected-some : (c : Cond) (x : Option (List CellType)) → is_some (selected_types c x) ≡ true → is_some x ≡ true
+pub selected-some : (c : Cond) (x : Option (List CellType)) → is_some (selected_types c x) ≡ true → is_some x ≡ true
 selected-some c None e = e
 selected-some c (Some types) e = refl
 
-projected-some : (exprs : List Expr) (x : Option (List CellType)) → is_some (projected_types exprs x) ≡ true → is_some x ≡ true
+pub projected-some : (exprs : List Expr) (x : Option (List CellType)) → is_some (projected_types exprs x) ≡ true → is_some x ≡ true
 projected-some exprs None e = e
 projected-some exprs (Some types) e = refl
 
-product-some : (x y : Option (List CellType)) → is_some (product_types x y) ≡ true → (is_some x ≡ true) × (is_some y ≡ true)
+pub product-some : (x y : Option (List CellType)) → is_some (product_types x y) ≡ true → (is_some x ≡ true) × (is_some y ≡ true)
 product-some (Some types) (Some others) e = (refl, refl)
 product-some (Some types) None e = absurd cc
 product-some None y e = absurd cc

@@ -1,26 +1,18 @@
 -- Names, and numbers with a sign, are read again in front of a rest.
-use Rattle.std.proofs.Common.{◌≡◌, ◌≢◌, ℕ, ℤ, pos, negsuc, zero, suc, ◌-◌, ◌^◌, ◌<◌, ◌≤◌, Bool, true, false, eqb, ◌||◌, inl, inr, List, [], ◌∷◌, ◌++◌, length, map, get_or, take, drop, Option, Some, None, option_and_then, refl, sym, ap, ◌∙◌, append-nil, length-append, arith, ne_eqb}
-use Rattle.std.specs.Prelude.{codes, ◌==◌, slice_get}
-use Rattle.std.specs.Fmt.{decimal, signed_decimal}
-use Rattle.std.specs.List.{AllByRecursion, list_all}
-use Rattle.std.specs.Str.{bytes_eq}
+use Rattle.gp_sql.proofs.Prelude.{◌≡◌, ◌≢◌, ℕ, ℤ, pos, zero, suc, ◌-◌, ◌^◌, ◌<◌, ◌≤◌, Bool, true, false, eqb, List, [], ◌∷◌, ◌++◌, length, map, get_or, take, drop, Some, None, option_and_then, refl, sym, ap, ◌∙◌, append-nil, length-append, arith, codes, ◌==◌, slice_get, decimal, signed_decimal, AllByRecursion, list_all, bytes_eq, and_parts, and_from, leb-true, ltb-true, false≢true, list_all-append, Table, table_names, fits_number, is_digit, is_name, behind, name_at, most_u64, number_at, EndsName, concat-onto, Ends}
+use Rattle.std.proofs.Common.{negsuc, ◌||◌, inl, inr, Option, ne_eqb}
 use Rattle.std.proofs.lemmas.Slice.Eq.{bytes_eq-Decides}
-use Rattle.std.proofs.lemmas.Bool.{cases_Bool, and_parts, and_from, leb-true, ltb-true, eqb-true, false≢true, or_left}
+use Rattle.std.proofs.lemmas.Bool.{cases_Bool, eqb-true, or_left}
 use Rattle.std.proofs.lemmas.Fmt.{digits_decimal, digits_value-decimal, decimal_nonempty}
 use Rattle.std.proofs.lemmas.List.{take_at}
-use Rattle.std.proofs.lemmas.List.Folds.{list_all-append}
 use Rattle.gp_base.proofs.DigitLemmas.{own_on}
 use Rattle.gp_base.specs.declared.cell.Cell.TheVariants as cell
 use Rattle.gp_base.specs.declared.table.Column as table
-use Rattle.gp_base.specs.declared.table.Table.{Table}
-use Rattle.gp_base.specs.Catalogs.{table_names}
-use Rattle.gp_base.specs.Cells.{fits_number}
-use Rattle.gp_base.specs.Digits.{are_digits, is_digit}
-use Rattle.gp_base.specs.Names.{is_name, is_name_byte, is_lower_letter}
-use Rattle.gp_plantext.specs.Leaves.{behind, name_at, most_u64, number_at}
+use Rattle.gp_base.specs.Digits.{are_digits}
+use Rattle.gp_base.specs.Names.{is_name_byte, is_lower_letter}
 use Rattle.gp_plantext.proofs.CellAgain.{cell-again}
-use Rattle.gp_plantext.proofs.NumberAgain.{decimal-first, number-again, EndsName}
-use Rattle.gp_plantext.proofs.Rests.{concat-onto, Ends, no_digits, no_word}
+use Rattle.gp_plantext.proofs.NumberAgain.{decimal-first, number-again}
+use Rattle.gp_plantext.proofs.Rests.{no_digits, no_word}
 use Rattle.gp_sql.specs.Spelled.{AreDifferent, HaveOwnNames, source_is_spelled, column_is_spelled}
 use Rattle.gp_sql.specs.Spelling.{name_of, column_name, column_text, source_text}
 use Rattle.gp_sql.specs.Sql as s
@@ -83,14 +75,14 @@ name-listed [] n = refl
 name-listed (column ∷ columns) zero = refl
 name-listed (column ∷ columns) (suc n) = name-listed columns n
 
-column-listed : (own : Option Table) (n : ℕ) → column_name own n ≡ get_or (column_names own) n []
+column-listed : (only : Option Table) (n : ℕ) → column_name only n ≡ get_or (column_names only) n []
 column-listed None n = refl
-column-listed (Some own) n = name-listed own.cols n
+column-listed (Some only) n = name-listed only.cols n
 
-columns-differ : (tables : List Table) (own : ℕ) → AllByRecursion (λ (each : Table). AreDifferent (map (λ (column : table.Column). column.name) each.cols)) tables → AreDifferent (column_names (slice_get tables own))
-columns-differ [] own apart = λ i j d below within. absurd (omega (arith, within))
+columns-differ : (tables : List Table) (only : ℕ) → AllByRecursion (λ (each : Table). AreDifferent (map (λ (column : table.Column). column.name) each.cols)) tables → AreDifferent (column_names (slice_get tables only))
+columns-differ [] only apart = λ i j d below within. absurd (omega (arith, within))
 columns-differ (each ∷ tables) zero apart = apart.0
-columns-differ (each ∷ tables) (suc own) apart = columns-differ tables own apart.1
+columns-differ (each ∷ tables) (suc only) apart = columns-differ tables only apart.1
 
 -- ---- numbers
 
@@ -160,57 +152,57 @@ module _ (tables : List Table) (apart : HaveOwnNames tables) where
 
   pub source-again : (source : Source) (rest : List ℕ) → source_is_spelled tables source ≡ true → EndsName rest → source_at tables (source_text tables source ++ rest) ≡ Some (source, rest)
   source-again source rest is ends =
-      ap (λ (x : List ℕ × List ℕ). Some (source_of tables x.0, x.1)) (name-again (source_text tables source) rest (source-bytes source is) ends) ∙ ap (λ (own : Source). Some (own, rest)) (source-is source is)
+      ap (λ (x : List ℕ × List ℕ). Some (source_of tables x.0, x.1)) (name-again (source_text tables source) rest (source-bytes source is) ends) ∙ ap (λ (only : Source). Some (only, rest)) (source-is source is)
 
   -- ---- columns
 
   -- the column of this name, of another table
   abbrev pub under : ℕ → Column → Column
-  under own (s.stored table n) = s.stored own (place_in (column_names (slice_get tables own)) (column_name (slice_get tables table) n))
-  under own s.identity = s.identity
-  under own s.begins = s.begins
-  under own s.ends = s.ends
-  under own (s.numbered n) = s.numbered n
+  under only (s.stored table n) = s.stored only (place_in (column_names (slice_get tables only)) (column_name (slice_get tables table) n))
+  under only s.identity = s.identity
+  under only s.begins = s.begins
+  under only s.ends = s.ends
+  under only (s.numbered n) = s.numbered n
 
-  quoted-column : (own : ℕ) (name rest : List ℕ) → is_name name ≡ true
-      → column_at tables own (codes "\"" ++ (name ++ (codes "\"" ++ rest))) ≡ Some (s.stored own (place_in (column_names (slice_get tables own)) name), rest)
-  quoted-column own [] rest is = absurd (false≢true is)
-  quoted-column own (b ∷ bytes) rest is =
+  quoted-column : (only : ℕ) (name rest : List ℕ) → is_name name ≡ true
+      → column_at tables only (codes "\"" ++ (name ++ (codes "\"" ++ rest))) ≡ Some (s.stored only (place_in (column_names (slice_get tables only)) name), rest)
+  quoted-column only [] rest is = absurd (false≢true is)
+  quoted-column only (b ∷ bytes) rest is =
       let x = and_parts _ _ is in
       let y = and_parts _ _ x.0 in
       let z = and_parts (is_lower_letter b) (list_all is_name_byte bytes) y.0 in
       let letter : 97 ≤ b = leb-true 97 b (and_parts _ _ z.0).0 in
       let other : eqb 36 b ≡ false = ne_eqb 36 b (λ e. omega (arith, letter, e)) in
-      rw other (ap (λ (w : List ℕ × List ℕ). Some (s.stored own (place_in (column_names (slice_get tables own)) w.0), drop 1 w.1)) (name-again (b ∷ bytes) (codes "\"" ++ rest) (name-bytes (b ∷ bytes) is) refl))
+      rw other (ap (λ (w : List ℕ × List ℕ). Some (s.stored only (place_in (column_names (slice_get tables only)) w.0), drop 1 w.1)) (name-again (b ∷ bytes) (codes "\"" ++ rest) (name-bytes (b ∷ bytes) is) refl))
 
-  pub column-again : (table : Option ℕ) (own : ℕ) (c : Column) (rest : List ℕ) → column_is_spelled tables table c ≡ true → Ends rest → column_at tables own (column_text tables c ++ rest) ≡ Some (under own c, rest)
-  column-again table own s.identity rest is ends = refl
-  column-again table own s.begins rest is ends = refl
-  column-again table own s.ends rest is ends = refl
-  column-again None own (s.stored place n) rest is ends = absurd (false≢true is)
-  column-again (Some table) own (s.stored place n) rest is ends =
+  pub column-again : (table : Option ℕ) (only : ℕ) (c : Column) (rest : List ℕ) → column_is_spelled tables table c ≡ true → Ends rest → column_at tables only (column_text tables c ++ rest) ≡ Some (under only c, rest)
+  column-again table only s.identity rest is ends = refl
+  column-again table only s.begins rest is ends = refl
+  column-again table only s.ends rest is ends = refl
+  column-again None only (s.stored place n) rest is ends = absurd (false≢true is)
+  column-again (Some table) only (s.stored place n) rest is ends =
       let name = column_name (slice_get tables place) n in
-      ap (column_at tables own) (concat-onto (codes "\"" ∷ name ∷ codes "\"" ∷ []) rest) ∙ quoted-column own name rest (and_parts (table == place) (is_name name) is).1
-  column-again table own (s.numbered n) rest is ends =
-      ap (column_at tables own) (concat-onto (codes "c" ∷ decimal n ∷ []) rest) ∙ ap (λ (x : ℕ × List ℕ). Some (s.numbered x.0, x.1)) (number-is n rest is ends)
+      ap (column_at tables only) (concat-onto (codes "\"" ∷ name ∷ codes "\"" ∷ []) rest) ∙ quoted-column only name rest (and_parts (table == place) (is_name name) is).1
+  column-again table only (s.numbered n) rest is ends =
+      ap (column_at tables only) (concat-onto (codes "c" ∷ decimal n ∷ []) rest) ∙ ap (λ (x : ℕ × List ℕ). Some (s.numbered x.0, x.1)) (number-is n rest is ends)
 
-  pub under-none : (own : ℕ) (c : Column) → column_is_spelled tables None c ≡ true → under own c ≡ c
-  under-none own s.identity is = refl
-  under-none own s.begins is = refl
-  under-none own s.ends is = refl
-  under-none own (s.stored table n) is = absurd (false≢true is)
-  under-none own (s.numbered n) is = refl
+  pub under-none : (only : ℕ) (c : Column) → column_is_spelled tables None c ≡ true → under only c ≡ c
+  under-none only s.identity is = refl
+  under-none only s.begins is = refl
+  under-none only s.ends is = refl
+  under-none only (s.stored table n) is = absurd (false≢true is)
+  under-none only (s.numbered n) is = refl
 
-  pub under-same : (own : ℕ) (c : Column) → column_is_spelled tables (Some own) c ≡ true → under own c ≡ c
-  under-same own s.identity is = refl
-  under-same own s.begins is = refl
-  under-same own s.ends is = refl
-  under-same own (s.stored table n) is =
-      let p = and_parts (own == table) (is_name (column_name (slice_get tables table) n)) is in
-      let same : own ≡ table = eqb-true own table p.0 in
+  pub under-same : (only : ℕ) (c : Column) → column_is_spelled tables (Some only) c ≡ true → under only c ≡ c
+  under-same only s.identity is = refl
+  under-same only s.begins is = refl
+  under-same only s.ends is = refl
+  under-same only (s.stored table n) is =
+      let p = and_parts (only == table) (is_name (column_name (slice_get tables table) n)) is in
+      let same : only ≡ table = eqb-true only table p.0 in
       let names = column_names (slice_get tables table) in
       let listed = column-listed (slice_get tables table) n in
       let within : n < length names = named-within names n (ap is_name (sym listed) ∙ p.1) in
       let place : place_in names (column_name (slice_get tables table) n) ≡ n = ap (place_in names) listed ∙ place-again names n (columns-differ tables table apart.1) within in
       (λ i. s.stored (same i) (place_in (column_names (slice_get tables (same i))) (column_name (slice_get tables table) n))) ∙ ap (s.stored table) place
-  under-same own (s.numbered n) is = refl
+  under-same only (s.numbered n) is = refl

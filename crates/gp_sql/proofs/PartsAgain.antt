@@ -1,19 +1,9 @@
 -- Terms and conditions are read again in front of a rest, where their parts are.
-use Rattle.std.proofs.Common.{◌≡◌, ℕ, ℤ, suc, ◌+◌, ◌-◌, ◌<◌, ◌≤◌, Bool, true, false, List, [], ◌∷◌, ◌++◌, length, Option, Some, None, option_and_then, refl, ap, ◌∙◌, append_assoc, arith}
-use Rattle.std.specs.Prelude.{codes}
-use Rattle.std.specs.Fmt.{signed_decimal}
-use Rattle.std.specs.List.{concat, flat_map}
-use Rattle.std.specs.Option.{option_map}
-use Rattle.std.proofs.lemmas.Bool.{false≢true}
-use Rattle.gp_base.specs.declared.table.Table.{Table}
-use Rattle.gp_base.specs.Leaves.{if_there}
+use Rattle.gp_sql.proofs.Prelude.{◌≡◌, ℕ, ℤ, suc, ◌+◌, ◌-◌, ◌<◌, ◌≤◌, Bool, true, false, List, [], ◌∷◌, ◌++◌, length, Some, None, option_and_then, refl, ap, ◌∙◌, append_assoc, arith, codes, signed_decimal, concat, flat_map, option_map, false≢true, Table, if_there, Cmp, Read, with_rest, behind, text_at, concat-onto, Ends, then_is, behind-words}
+use Rattle.std.proofs.Common.{Option}
 use Rattle.gp_base.specs.Texts.{quoted_byte}
-use Rattle.gp_expr.specs.declared.expr.Cmp.{Cmp}
 use Rattle.gp_expr.specs.declared.expr.Cmp.TheVariants as cmp
-use Rattle.gp_plantext.specs.Leaves.{Read, with_rest, behind, text_at}
 use Rattle.gp_plantext.proofs.CellAgain.{text-again}
-use Rattle.gp_plantext.proofs.Rests.{concat-onto, Ends, then_is}
-use Rattle.gp_plantext.proofs.WordLemmas.{behind-words}
 use Rattle.gp_sql.specs.Spelled.{is_unit, is_chain, term_is_spelled}
 use Rattle.gp_sql.specs.Spelling.{cmp_text, prefix_text, column_text, term_text}
 use Rattle.gp_sql.specs.Sql as s

@@ -1,17 +1,11 @@
 -- PUBLISH: the query of the written identities, and the query that reads it.
-use Rattle.std.proofs.Common.{◌≡◌, ℕ, suc, Bool, true, false, cond, List, [], ◌∷◌, ◌++◌, map, length, Some, None, pos, refl, sym, ap, ◌∙◌, append-nil}
-use Rattle.std.specs.Prelude.{Option, is_some, ◌&&◌, ◌||◌, not, filter}
-use Rattle.std.specs.List.{AllByRecursion, list_any}
-use Rattle.std.proofs.lemmas.Bool.{and_parts}
-use Rattle.std.proofs.lemmas.List.{map-append}
+use Rattle.gp_sql.proofs.Prelude.{◌≡◌, ℕ, suc, Bool, true, false, cond, List, [], ◌∷◌, ◌++◌, map, length, Some, None, pos, refl, sym, ap, ◌∙◌, append-nil, Option, is_some, ◌&&◌, ◌||◌, not, filter, AllByRecursion, list_any, and_parts, map-append, each_append, eq_itself, filter-map, map-map, map_agree_at, Cell, column, compared, holds, known, negation, is_marked, is_same_id, published_onto}
 use Rattle.std.proofs.lemmas.List.Folds.{list_any-append}
 use Rattle.std.proofs.lemmas.Map.Views.{any-filter_same}
-use Rattle.gp_base.proofs.SmallLemmas.{any-map, each_append, eq_itself, filter-map, map-map, map_agree_at}
-use Rattle.gp_base.specs.declared.cell.Cell.{Cell}
+use Rattle.gp_base.proofs.SmallLemmas.{any-map}
 use Rattle.gp_base.specs.declared.cell.Cell.TheVariants as cell
 use Rattle.gp_expr.specs.declared.expr.Cmp.TheVariants as cmp
-use Rattle.gp_expr.specs.Values.{column, compared, holds, known, negation}
-use Rattle.gp_algebra.specs.Plain.{has_id, is_marked, is_same_id, is_written, published_onto}
+use Rattle.gp_algebra.specs.Plain.{has_id, is_written}
 use Rattle.gp_sql.specs.declared.cell_type.CellType.{CellType}
 use Rattle.gp_sql.specs.declared.cell_type.CellType.TheVariants.{Null, Int, Text, Id, Mark}
 use Rattle.gp_sql.specs.Sql as s

@@ -1,22 +1,9 @@
 -- A query of SQL gives the rows of the plain query that it is made of, and its columns are c1, c2, ..
-use Rattle.std.proofs.Common.{◌≡◌, ℕ, zero, suc, Bool, true, false, cond, List, [], ◌∷◌, ◌++◌, map, drop, length, Some, None, refl, sym, ap, ◌∙◌, append-nil}
-use Rattle.std.specs.Prelude.{Option, is_some, filter}
-use Rattle.std.specs.List.{AllByRecursion, flat_map}
-use Rattle.std.specs.Option.{option_map_or}
-use Rattle.std.proofs.lemmas.List.{map-append}
-use Rattle.gp_base.proofs.SmallLemmas.{map-map, map_agree_at, filter-map, filter_agree, flat_map-map, map-flat_map, length-map}
-use Rattle.gp_base.specs.declared.cell.Cell.{Cell}
+use Rattle.gp_sql.proofs.Prelude.{◌≡◌, ℕ, zero, suc, Bool, true, false, cond, List, [], ◌∷◌, ◌++◌, map, drop, length, Some, None, refl, sym, ap, ◌∙◌, append-nil, Option, is_some, filter, AllByRecursion, flat_map, option_map_or, map-append, map-map, map_agree_at, filter-map, map-flat_map, length-map, Cell, Table, unannotated, Expr, Cond, holds, passes, values, encoded_row, Span, holds_at, row_of, spans_at, rows_at}
+use Rattle.gp_base.proofs.SmallLemmas.{filter_agree, flat_map-map}
 use Rattle.gp_base.specs.declared.cell.Cell.TheVariants as cell
 use Rattle.gp_base.specs.declared.table.Column as t
 use Rattle.gp_base.specs.declared.table.Kind.TheVariants as kind
-use Rattle.gp_base.specs.declared.table.Table.{Table}
-use Rattle.gp_base.specs.Annotated.{unannotated}
-use Rattle.gp_expr.specs.Expressions.{Expr, Cond}
-use Rattle.gp_expr.specs.Values.{holds, passes}
-use Rattle.gp_algebra.specs.Answers.{values}
-use Rattle.gp_algebra.specs.Encoding.{encoded_row}
-use Rattle.gp_versions.specs.declared.span.Span.{Span}
-use Rattle.gp_versions.specs.Spans.{holds_at, row_of, spans_at, rows_at}
 use Rattle.gp_sql.specs.declared.cell_type.CellType.{CellType}
 use Rattle.gp_sql.specs.declared.cell_type.CellType.TheVariants.{Id, Mark}
 use Rattle.gp_sql.specs.Sql as s

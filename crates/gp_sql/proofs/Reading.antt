@@ -1,21 +1,12 @@
 -- Queries read from their texts. What stands behind an open bracket is read once, as a term or a condition, and the words behind it decide. The columns of a table
 -- are read as those of a table that is given; a block is read up to its FROM, and then its items again, as of the table there.
-use Rattle.std.proofs.Common.{ℕ, zero, suc, ◌-◌, Bool, true, false, ◌||◌, eqb, List, [], ◌∷◌, length, take, drop, map, Option, Some, None, option_and_then, ℤ}
-use Rattle.std.specs.Prelude.{codes, if◌then◌else◌, slice_get}
-use Rattle.std.specs.Fmt.{decimal}
-use Rattle.std.specs.Option.{option_map}
-use Rattle.std.specs.Str.{bytes_eq}
+use Rattle.gp_sql.proofs.Prelude.{ℕ, zero, suc, ◌-◌, Bool, true, false, eqb, List, [], ◌∷◌, length, take, drop, map, Some, None, option_and_then, ℤ, codes, if◌then◌else◌, slice_get, decimal, option_map, bytes_eq, Cell, Table, table_names, is_digit, if_there, Cmp, Read, with_rest, behind, name_at, text_at, most_u64, number_at}
+use Rattle.std.proofs.Common.{◌||◌, Option}
 use Rattle.gp_base.proofs.DigitLemmas.{fold_on}
-use Rattle.gp_base.specs.declared.cell.Cell.{Cell}
 use Rattle.gp_base.specs.declared.cell.Cell.TheVariants as cell
 use Rattle.gp_base.specs.declared.table.Column as table
-use Rattle.gp_base.specs.declared.table.Table.{Table}
-use Rattle.gp_base.specs.Catalogs.{table_names}
-use Rattle.gp_base.specs.Digits.{is_digit}
-use Rattle.gp_base.specs.Leaves.{if_there}
-use Rattle.gp_expr.specs.declared.expr.Cmp.{Cmp}
 use Rattle.gp_expr.specs.declared.expr.Cmp.TheVariants as cmp
-use Rattle.gp_plantext.specs.Leaves.{Read, with_rest, behind, name_at, text_at, cell_at, most_u64, number_at}
+use Rattle.gp_plantext.specs.Leaves.{cell_at}
 use Rattle.gp_sql.specs.Sql as s
 use Rattle.gp_sql.specs.Sql.{SqlType, Column, Source, Alias, FromItem, Term, Terms, Test, Items, Where, Block, Query, NamedQuery, With}
 use Rattle.gp_sql.specs.Spelled.{only_table}
@@ -29,7 +20,7 @@ place_in (name ∷ names) word = if bytes_eq name word then 0 else suc (place_in
 
 abbrev pub column_names : Option Table → List (List ℕ)
 column_names None = []
-column_names (Some own) = map (λ (column : table.Column). column.name) own.cols
+column_names (Some found) = map (λ (column : table.Column). column.name) found.cols
 
 abbrev pub last_byte : ℕ → List ℕ → ℕ
 last_byte byte [] = byte
@@ -104,21 +95,21 @@ cast_at bytes =
 
 module _ (tables : List Table) where
   abbrev pub column_at : ℕ → List ℕ → Read Column
-  column_at own bytes =
+  column_at only bytes =
       if_there (behind (codes "\"$id\"") bytes) (λ rest. Some (s.identity, rest))
       (if_there (behind (codes "\"$from\"") bytes) (λ rest. Some (s.begins, rest))
       (if_there (behind (codes "\"$to\"") bytes) (λ rest. Some (s.ends, rest))
-      (if_there (behind (codes "\"") bytes) (λ rest. Some (s.stored own (place_in (column_names (slice_get tables own)) (name_at rest).0), drop 1 (name_at rest).1))
+      (if_there (behind (codes "\"") bytes) (λ rest. Some (s.stored only (place_in (column_names (slice_get tables only)) (name_at rest).0), drop 1 (name_at rest).1))
       (if_there (behind (codes "c") bytes) (λ rest. Some (s.numbered (number_at most_u64 rest).0, (number_at most_u64 rest).1)) None))))
 
   abbrev pub column_of : Alias → Read Column → Read Part
   column_of alias = option_map (λ (x : Column × List ℕ). (term (s.column alias x.0), x.1))
 
   abbrev pub named_column_at : ℕ → List ℕ → Read Part
-  named_column_at own bytes =
-      if_there (behind (codes "x.") bytes) (λ rest. column_of s.x (column_at own rest))
-      (if_there (behind (codes "y.") bytes) (λ rest. column_of s.y (column_at own rest))
-      (column_of s.no_alias (column_at own bytes)))
+  named_column_at only bytes =
+      if_there (behind (codes "x.") bytes) (λ rest. column_of s.x (column_at only rest))
+      (if_there (behind (codes "y.") bytes) (λ rest. column_of s.y (column_at only rest))
+      (column_of s.no_alias (column_at only bytes)))
 
 -- ---- conditions and terms, where parts and queries can be read, so many in a row
 
@@ -217,7 +208,7 @@ module _ (read : List ℕ → Read Part) (most : ℕ) where
       (term_before (codes " END") y.1)) (term_before (codes " ELSE ") rest)) None) (test_at bytes)
 
   unfoldable pub part_by : List Table → (List ℕ → Read Query) → ℕ → List ℕ → Read Part
-  part_by tables query own bytes =
+  part_by tables query only bytes =
       if_there (behind (codes "- ") bytes) opposite_at
       (if begins_number bytes then option_map (λ (x : ℤ × List ℕ). (term (s.number x.0), x.1)) (signed_at bytes) else
       (if_there (behind (codes "'") bytes) (λ rest. option_map (λ (x : List ℕ × List ℕ). (term (s.text x.0), x.1)) (text_at rest))
@@ -227,7 +218,7 @@ module _ (read : List ℕ → Read Part) (most : ℕ) where
       (if_there (behind (codes "NOT ") bytes) not_at
       (if_there (behind (codes "(") bytes) bracket_at
       (if_there (behind (codes "*") bytes) (λ rest. Some (star, rest))
-      (named_column_at tables own bytes)))))))))
+      (named_column_at tables only bytes)))))))))
 
   -- ---- blocks
 
@@ -297,9 +288,9 @@ module _ (tables : List Table) where
     pub query : List ℕ → Read Query
 
   abbrev pub next_readers : ℕ → Readers → Readers
-  next_readers n own = record {
-    part = λ table bytes. part_by (own.part table) n tables own.query table bytes;
-    query = λ bytes. query_by own.part n own.query bytes;
+  next_readers n inner = record {
+    part = λ table bytes. part_by (inner.part table) n tables inner.query table bytes;
+    query = λ bytes. query_by inner.part n inner.query bytes;
   }
 
   -- what is read within so many steps

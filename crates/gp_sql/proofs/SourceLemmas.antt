@@ -1,9 +1,6 @@
 -- What FROM and WHERE choose where there are one or two sources, and what EXISTS finds.
-use Rattle.std.proofs.Common.{◌≡◌, Bool, true, false, cond, List, [], ◌∷◌, ◌++◌, map, refl, ap, ◌∙◌, append-nil}
-use Rattle.std.specs.Prelude.{◌||◌, filter}
-use Rattle.std.specs.List.{AllByRecursion, flat_map, list_any}
-use Rattle.gp_base.proofs.SmallLemmas.{map-map, filter-map, map-flat_map, flat_map_agree}
-use Rattle.gp_base.specs.declared.cell.Cell.{Cell}
+use Rattle.gp_sql.proofs.Prelude.{◌≡◌, Bool, true, false, cond, List, [], ◌∷◌, ◌++◌, map, refl, ap, ◌∙◌, append-nil, ◌||◌, filter, AllByRecursion, flat_map, list_any, map-map, filter-map, map-flat_map, Cell}
+use Rattle.gp_base.proofs.SmallLemmas.{flat_map_agree}
 use Rattle.gp_sql.specs.Meaning.{Relation, Scope, choices, items_row, passes_where, block_rows, has_row}
 use Rattle.gp_sql.specs.NamedQueries.{from, all_of}
 use Rattle.gp_sql.specs.Sql as s

@@ -1,24 +1,9 @@
 -- The query of a program that has types and a text is spelled, where its text has fewer than 2 ^ 63 bytes.
-use Rattle.std.proofs.Common.{◌≡◌, ℕ, pos, zero, suc, ◌+◌, ◌^◌, ◌<◌, ◌≤◌, Bool, true, false, cond, List, [], ◌∷◌, ◌++◌, length, take, drop, get_or, Option, Some, None, refl, sym, subst, ◌∙◌, length-append, arith}
-use Rattle.std.specs.Prelude.{codes, is_some, ◌&&◌, ◌||◌, ◌==◌, slice_get}
-use Rattle.std.specs.Fmt.{decimal}
-use Rattle.std.specs.List.{flat_map, list_all}
-use Rattle.std.proofs.lemmas.Bool.{and_parts, and_from, false≢true}
-use Rattle.std.proofs.lemmas.List.Folds.{list_all-append}
-use Rattle.gp_base.proofs.SmallLemmas.{eq_itself}
-use Rattle.gp_base.specs.declared.cell.Cell.{Cell}
+use Rattle.gp_sql.proofs.Prelude.{◌≡◌, ℕ, pos, zero, suc, ◌+◌, ◌^◌, ◌<◌, ◌≤◌, Bool, true, false, cond, List, [], ◌∷◌, ◌++◌, length, take, drop, get_or, Some, None, refl, sym, subst, ◌∙◌, length-append, arith, codes, is_some, ◌&&◌, ◌||◌, ◌==◌, slice_get, decimal, flat_map, list_all, and_parts, and_from, false≢true, list_all-append, eq_itself, Cell, Table, table_names, fits_number, is_name, newline, is_u32, Expr, Cond, Plain, PlainStep, PlainProgram, width_of, cell_is_spellable, expr_is_spellable, cond_is_spellable}
+use Rattle.std.proofs.Common.{Option}
 use Rattle.gp_base.specs.declared.table.Column as table
-use Rattle.gp_base.specs.declared.table.Table.{Table}
-use Rattle.gp_base.specs.Catalogs.{table_names}
-use Rattle.gp_base.specs.Cells.{fits_number}
-use Rattle.gp_base.specs.Names.{is_name}
-use Rattle.gp_base.specs.Numbered.{newline}
-use Rattle.gp_base.specs.Tokens.{is_u32}
-use Rattle.gp_expr.specs.Expressions.{Expr, Cond}
 use Rattle.gp_algebra.specs.Plain as p
-use Rattle.gp_algebra.specs.Plain.{Plain, PlainStep, PlainProgram}
-use Rattle.gp_algebra.specs.Statements.{width_of}
-use Rattle.gp_plantext.specs.Spellable.{cell_is_spellable, has_item, expr_is_spellable, cond_is_spellable, row_is_spellable, table_is_spellable, query_is_spellable, step_is_spellable, is_spellable}
+use Rattle.gp_plantext.specs.Spellable.{has_item, row_is_spellable, table_is_spellable, query_is_spellable, step_is_spellable, is_spellable}
 use Rattle.gp_plantext.proofs.Rests.{length-concat}
 use Rattle.gp_sql.specs.declared.cell_type.CellType.{CellType}
 use Rattle.gp_sql.specs.declared.cell_type.CellType.TheVariants.{Id, Mark}
@@ -32,6 +17,7 @@ use Rattle.gp_sql.specs.Types.{StepTypes, cond_is_typed, with_first, exprs_types
 use Rattle.gp_sql.proofs.PublishLemmas.{is-published}
 use Rattle.gp_sql.proofs.QueryLemmas.{both-parts}
 use Rattle.gp_sql.proofs.SpelledTerms.{fits, fits-u32, fits-next, three, cond-spelled, exprs-spelled, cells-spelled}
+use Rattle.gp_sql.proofs.NamedLemmas.{product-some, projected-some, selected-some}
 
 -- ---- every query of a program that has a text has a column
 
@@ -125,19 +111,6 @@ known-some : (x : Option (List CellType)) → is_some x ≡ true → IsWide x �
 known-some None some wide = absurd (false≢true some)
 known-some (Some []) some wide = absurd wide
 known-some (Some (type ∷ types)) some wide = omega arith
-
-selected-some : (c : Cond) (x : Option (List CellType)) → is_some (selected_types c x) ≡ true → is_some x ≡ true
-selected-some c None e = e
-selected-some c (Some types) e = refl
-
-projected-some : (exprs : List Expr) (x : Option (List CellType)) → is_some (projected_types exprs x) ≡ true → is_some x ≡ true
-projected-some exprs None e = e
-projected-some exprs (Some types) e = refl
-
-product-some : (x y : Option (List CellType)) → is_some (product_types x y) ≡ true → (is_some x ≡ true) × (is_some y ≡ true)
-product-some (Some types) (Some others) e = (refl, refl)
-product-some (Some types) None e = absurd cc
-product-some None y e = absurd cc
 
 -- ---- lists of terms
 
@@ -261,7 +234,7 @@ module _ (tables : List Table) where
     few : a.next ≤ n + total a.before
     good : n + (total a.before + long a.query) < 2 ^ 63 → (list_all (named_is_spelled tables) a.before ≡ true) × (query_is_spelled tables a.query ≡ true)
 
-  -- the same of an operand, which is no table
+  -- an operand, which is no table, and the queries before it are spelled, where their texts are short
   record GoodOperand (n : ℕ) (a : Operand) : Type 0 where
     few : a.next ≤ n + total a.before
     alone : table_of a.source ≡ None

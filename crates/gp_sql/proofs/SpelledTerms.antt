@@ -1,16 +1,8 @@
 -- Expressions and conditions that have texts have terms and conditions of SQL that are spelled.
-use Rattle.std.proofs.Common.{◌≡◌, ℕ, pos, suc, ◌^◌, ◌<◌, ◌≤◌, Bool, true, false, List, [], ◌∷◌, drop, Option, None, refl, arith}
-use Rattle.std.specs.Prelude.{◌&&◌, if◌then◌else◌}
-use Rattle.std.specs.List.{list_all}
-use Rattle.std.proofs.lemmas.Bool.{and_parts, and_from, leb-true, lt-ltb}
-use Rattle.gp_base.specs.declared.cell.Cell.{Cell}
+use Rattle.gp_sql.proofs.Prelude.{◌≡◌, ℕ, pos, suc, ◌^◌, ◌<◌, ◌≤◌, Bool, true, false, List, [], ◌∷◌, drop, None, refl, arith, ◌&&◌, if◌then◌else◌, list_all, and_parts, and_from, leb-true, lt-ltb, Cell, Table, fits_number, is_u32, Expr, Cond, Parts, cell_is_spellable, expr_is_spellable, cond_is_spellable}
+use Rattle.std.proofs.Common.{Option}
 use Rattle.gp_base.specs.declared.cell.Cell.TheVariants as cell
-use Rattle.gp_base.specs.declared.table.Table.{Table}
-use Rattle.gp_base.specs.Cells.{fits_number}
-use Rattle.gp_base.specs.Tokens.{is_u32}
 use Rattle.gp_expr.specs.Expressions as e
-use Rattle.gp_expr.specs.Expressions.{Expr, Cond, Parts}
-use Rattle.gp_plantext.specs.Spellable.{cell_is_spellable, expr_is_spellable, cond_is_spellable}
 use Rattle.gp_plantext.specs.SpellableForms.{parts_are_spellable}
 use Rattle.gp_sql.specs.declared.cell_type.CellType.{CellType}
 use Rattle.gp_sql.specs.declared.cell_type.CellType.TheVariants.{Null, Int, Id}

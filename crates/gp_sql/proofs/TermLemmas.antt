@@ -1,16 +1,10 @@
 -- Terms and tests of SQL have the values of the expressions and conditions that they are made of.
-use Rattle.std.proofs.Common.{◌≡◌, ℕ, zero, suc, Bool, true, false, cond, List, [], ◌∷◌, ◌++◌, map, Some, None, ℤ, refl, sym, ap, ◌∙◌, append_assoc, append-nil, codes, length}
-use Rattle.std.specs.Prelude.{Option, is_some, ◌&&◌, ◌+ℤ◌, ◌-ℤ◌, ◌*ℤ◌, get_or}
-use Rattle.std.specs.Fmt.{decimal}
-use Rattle.std.proofs.lemmas.Bool.{and_parts}
-use Rattle.gp_base.proofs.SmallLemmas.{length-map}
-use Rattle.gp_base.specs.declared.cell.Cell.{Cell}
+use Rattle.gp_sql.proofs.Prelude.{◌≡◌, ℕ, zero, suc, Bool, true, false, cond, List, [], ◌∷◌, ◌++◌, map, Some, None, ℤ, refl, sym, ap, ◌∙◌, append_assoc, append-nil, length, Option, is_some, ◌&&◌, ◌+ℤ◌, ◌-ℤ◌, ◌*ℤ◌, decimal, and_parts, length-map, Cell, Sources, identity_text, others_text, Expr, Cond, Parts, column, on_numbers, negated, compared, with_source, made_identity, holds, both, either, negation, tested, truth, value, identities}
+use Rattle.std.proofs.Common.{codes}
+use Rattle.std.specs.Prelude.{get_or}
 use Rattle.gp_base.specs.declared.cell.Cell.TheVariants as cell
-use Rattle.gp_base.specs.Identities.{Sources, identity_text, others_text}
 use Rattle.gp_expr.specs.Expressions as e
-use Rattle.gp_expr.specs.Expressions.{Expr, Cond, Parts}
 use Rattle.gp_expr.specs.Values as v
-use Rattle.gp_expr.specs.Values.{column, on_numbers, negated, compared, with_source, made_identity, holds, both, either, negation, tested, truth, value, identities}
 use Rattle.gp_sql.specs.declared.cell_type.CellType.{CellType}
 use Rattle.gp_sql.specs.declared.cell_type.CellType.TheVariants.{Null, Int, Text, Id, Mark}
 use Rattle.gp_sql.specs.Sql as s

@@ -1,18 +1,8 @@
 -- Terms, conditions and queries that are spelled are read again in front of a rest.
-use Rattle.std.proofs.Common.{◌≡◌, ℕ, zero, suc, ◌+◌, ◌<◌, ◌≤◌, Bool, true, false, List, [], ◌∷◌, ◌++◌, length, Option, Some, None, option_and_then, refl, sym, ap, subst, ◌∙◌, append_assoc, arith}
-use Rattle.std.specs.Prelude.{codes, ◌&&◌}
-use Rattle.std.specs.Fmt.{decimal, signed_decimal}
-use Rattle.std.specs.List.{concat, flat_map, list_all}
-use Rattle.std.specs.Option.{option_map}
-use Rattle.std.proofs.lemmas.Bool.{and_parts, false≢true}
-use Rattle.gp_base.specs.declared.table.Table.{Table}
-use Rattle.gp_base.specs.Leaves.{if_there}
-use Rattle.gp_expr.specs.declared.expr.Cmp.{Cmp}
+use Rattle.gp_sql.proofs.Prelude.{◌≡◌, ℕ, zero, suc, ◌+◌, ◌<◌, ◌≤◌, Bool, true, false, List, [], ◌∷◌, ◌++◌, length, Some, None, option_and_then, refl, sym, ap, subst, ◌∙◌, append_assoc, arith, codes, ◌&&◌, decimal, signed_decimal, concat, flat_map, list_all, option_map, and_parts, false≢true, Table, if_there, Cmp, Read, with_rest, behind, EndsName, behind-words, concat-onto, Ends, then_is}
+use Rattle.std.proofs.Common.{Option}
 use Rattle.gp_expr.specs.declared.expr.Cmp.TheVariants as cmp
-use Rattle.gp_plantext.specs.Leaves.{Read, with_rest, behind}
-use Rattle.gp_plantext.proofs.NumberAgain.{EndsName}
-use Rattle.gp_plantext.proofs.WordLemmas.{behind-words}
-use Rattle.gp_plantext.proofs.Rests.{onto, concat-onto, Ends, then_is}
+use Rattle.gp_plantext.proofs.Rests.{onto}
 use Rattle.gp_sql.specs.Spelled.{HaveOwnNames, only_table, is_unit, is_chain, source_is_spelled, column_is_spelled, term_is_spelled, terms_are_spelled, test_is_spelled, items_are_spelled, where_is_spelled, block_is_spelled, query_is_spelled}
 use Rattle.gp_sql.specs.Spelling.{cmp_text, alias_text, source_text, item_text, from_text, term_text, joined_text, others_joined, others_named, test_text, items_text, where_text, block_text, query_text}
 use Rattle.gp_sql.specs.Sql as s
@@ -100,86 +90,86 @@ module _ (tables : List Table) (apart : HaveOwnNames tables) where
   -- ---- the columns of another table
 
   abbrev term_under : ℕ → Term → Term
-  term_under own (s.column alias c) = s.column alias (under tables apart own c)
-  term_under own (s.null type) = s.null type
-  term_under own (s.number z) = s.number z
-  term_under own (s.cast_number z) = s.cast_number z
-  term_under own (s.text text) = s.text text
-  term_under own (s.plus a b) = s.plus a b
-  term_under own (s.minus a b) = s.minus a b
-  term_under own (s.times a b) = s.times a b
-  term_under own (s.negative a) = s.negative a
-  term_under own (s.joined terms) = s.joined terms
-  term_under own (s.case c a b) = s.case c a b
+  term_under only (s.column alias c) = s.column alias (under tables apart only c)
+  term_under only (s.null type) = s.null type
+  term_under only (s.number z) = s.number z
+  term_under only (s.cast_number z) = s.cast_number z
+  term_under only (s.text text) = s.text text
+  term_under only (s.plus a b) = s.plus a b
+  term_under only (s.minus a b) = s.minus a b
+  term_under only (s.times a b) = s.times a b
+  term_under only (s.negative a) = s.negative a
+  term_under only (s.joined terms) = s.joined terms
+  term_under only (s.case c a b) = s.case c a b
 
   abbrev terms_under : ℕ → Terms → Terms
-  terms_under own s.no_terms = s.no_terms
-  terms_under own (s.term a others) = s.term (term_under own a) (terms_under own others)
+  terms_under only s.no_terms = s.no_terms
+  terms_under only (s.term a others) = s.term (term_under only a) (terms_under only others)
 
   abbrev items_under : ℕ → Items → Items
-  items_under own s.all = s.all
-  items_under own (s.named terms) = s.named (terms_under own terms)
-  items_under own (s.single a) = s.single a
+  items_under only s.all = s.all
+  items_under only (s.named terms) = s.named (terms_under only terms)
+  items_under only (s.single a) = s.single a
 
   -- a table that is read is the one whose columns are items
   abbrev Suits : Option ℕ → ℕ → Type 0
-  Suits None own = Unit {0}
-  Suits (Some table) own = table ≡ own
+  Suits None only = Unit {0}
+  Suits (Some table) only = table ≡ only
 
-  column-same : (table : Option ℕ) (own : ℕ) (c : Column) → Suits table own → column_is_spelled tables table c ≡ true → under tables apart own c ≡ c
-  column-same None own c suits is = under-none tables apart own c is
-  column-same (Some table) own c suits is = under-same tables apart own c (subst (λ (n : ℕ). column_is_spelled tables (Some n) c ≡ true) suits is)
+  column-same : (table : Option ℕ) (only : ℕ) (c : Column) → Suits table only → column_is_spelled tables table c ≡ true → under tables apart only c ≡ c
+  column-same None only c suits is = under-none tables apart only c is
+  column-same (Some table) only c suits is = under-same tables apart only c (subst (λ (n : ℕ). column_is_spelled tables (Some n) c ≡ true) suits is)
 
-  term-same : (table : Option ℕ) (own : ℕ) (a : Term) → Suits table own → term_is_spelled tables table a ≡ true → term_under own a ≡ a
-  term-same table own (s.column alias c) suits is = ap (s.column alias) (column-same table own c suits is)
-  term-same table own (s.null type) suits is = refl
-  term-same table own (s.number z) suits is = refl
-  term-same table own (s.cast_number z) suits is = refl
-  term-same table own (s.text text) suits is = refl
-  term-same table own (s.plus a b) suits is = refl
-  term-same table own (s.minus a b) suits is = refl
-  term-same table own (s.times a b) suits is = refl
-  term-same table own (s.negative a) suits is = refl
-  term-same table own (s.joined terms) suits is = refl
-  term-same table own (s.case c a b) suits is = refl
+  term-same : (table : Option ℕ) (only : ℕ) (a : Term) → Suits table only → term_is_spelled tables table a ≡ true → term_under only a ≡ a
+  term-same table only (s.column alias c) suits is = ap (s.column alias) (column-same table only c suits is)
+  term-same table only (s.null type) suits is = refl
+  term-same table only (s.number z) suits is = refl
+  term-same table only (s.cast_number z) suits is = refl
+  term-same table only (s.text text) suits is = refl
+  term-same table only (s.plus a b) suits is = refl
+  term-same table only (s.minus a b) suits is = refl
+  term-same table only (s.times a b) suits is = refl
+  term-same table only (s.negative a) suits is = refl
+  term-same table only (s.joined terms) suits is = refl
+  term-same table only (s.case c a b) suits is = refl
 
-  terms-same : (table : Option ℕ) (own : ℕ) (terms : Terms) → Suits table own → terms_are_spelled tables table terms ≡ true → terms_under own terms ≡ terms
-  terms-same table own s.no_terms suits is = refl
-  terms-same table own (s.term a others) suits is =
+  terms-same : (table : Option ℕ) (only : ℕ) (terms : Terms) → Suits table only → terms_are_spelled tables table terms ≡ true → terms_under only terms ≡ terms
+  terms-same table only s.no_terms suits is = refl
+  terms-same table only (s.term a others) suits is =
       let p = and_parts (term_is_spelled tables table a) (terms_are_spelled tables table others) is in
-      λ i. s.term (term-same table own a suits p.0 i) (terms-same table own others suits p.1 i)
+      λ i. s.term (term-same table only a suits p.0 i) (terms-same table only others suits p.1 i)
 
-  items-same : (table : Option ℕ) (own : ℕ) (items : Items) → Suits table own → items_are_spelled tables table items ≡ true → items_under own items ≡ items
-  items-same table own s.all suits is = refl
-  items-same table own (s.named s.no_terms) suits is = absurd (false≢true is)
-  items-same table own (s.named (s.term a others)) suits is = ap s.named (terms-same table own (s.term a others) suits is)
-  items-same table own (s.single a) suits is = refl
+  items-same : (table : Option ℕ) (only : ℕ) (items : Items) → Suits table only → items_are_spelled tables table items ≡ true → items_under only items ≡ items
+  items-same table only s.all suits is = refl
+  items-same table only (s.named s.no_terms) suits is = absurd (false≢true is)
+  items-same table only (s.named (s.term a others)) suits is = ap s.named (terms-same table only (s.term a others) suits is)
+  items-same table only (s.single a) suits is = refl
 
   -- ---- steps
 
   abbrev part_at : ℕ → ℕ → List ℕ → Read Part
-  part_at n own = (readers tables n).part own
+  part_at n only = (readers tables n).part only
 
   abbrev query_at : ℕ → List ℕ → Read Query
   query_at n = (readers tables n).query
 
   abbrev by_at : ℕ → ℕ → List ℕ → Read Part
-  by_at n own = by (part_at n own) n tables (query_at n) own
+  by_at n only = by (part_at n only) n tables (query_at n) only
 
-  part-suc : (n own : ℕ) (bytes : List ℕ) → part_at (suc n) own bytes ≡ by_at n own bytes
+  part-suc : (n only : ℕ) (bytes : List ℕ) → part_at (suc n) only bytes ≡ by_at n only bytes
   unfolding readers
-  part-suc n own bytes = refl
+  part-suc n only bytes = refl
 
   query-suc : (n : ℕ) (bytes : List ℕ) → query_at (suc n) bytes ≡ query_by tables (part_at n) n (query_at n) bytes
   unfolding readers
   query-suc n bytes = refl
 
-  enter : (n own : ℕ) (pieces : List (List ℕ)) (rest : List ℕ) → part_at (suc n) own (concat pieces ++ rest) ≡ by_at n own (onto pieces rest)
-  enter n own pieces rest = part-suc n own (concat pieces ++ rest) ∙ ap (by_at n own) (concat-onto pieces rest)
+  enter : (n only : ℕ) (pieces : List (List ℕ)) (rest : List ℕ) → part_at (suc n) only (concat pieces ++ rest) ≡ by_at n only (onto pieces rest)
+  enter n only pieces rest = part-suc n only (concat pieces ++ rest) ∙ ap (by_at n only) (concat-onto pieces rest)
 
   -- no column of a table is in it
-  plain : (n own : ℕ) (a : Term) (bytes rest : List ℕ) → term_is_spelled tables None a ≡ true → part_at n own bytes ≡ Some (term (term_under own a), rest) → part_at n own bytes ≡ Some (term a, rest)
-  plain n own a bytes rest is read = read ∙ ap (λ (b : Term). Some (term b, rest)) (term-same None own a tt is)
+  plain : (n only : ℕ) (a : Term) (bytes rest : List ℕ) → term_is_spelled tables None a ≡ true → part_at n only bytes ≡ Some (term (term_under only a), rest) → part_at n only bytes ≡ Some (term a, rest)
+  plain n only a bytes rest is read = read ∙ ap (λ (b : Term). Some (term b, rest)) (term-same None only a tt is)
 
   ends-joined : (others : Terms) (rest : List ℕ) → Ends (others_joined tables others ++ (codes ")" ++ rest))
   ends-joined s.no_terms rest = refl
@@ -198,7 +188,7 @@ module _ (tables : List Table) (apart : HaveOwnNames tables) where
   item-again : (item : FromItem) (rest : List ℕ) → source_is_spelled tables item.source ≡ true → EndsSource rest → item_at tables (item_text tables item ++ rest) ≡ Some (item, rest)
   item-again item rest is ends = alias item.alias refl
     where
-      alias : (own : Alias) → item.alias ≡ own → item_at tables (item_text tables item ++ rest) ≡ Some (item, rest)
+      alias : (only : Alias) → item.alias ≡ only → item_at tables (item_text tables item ++ rest) ≡ Some (item, rest)
       alias s.no_alias e =
           ap (item_at tables) (ap (λ (other : Alias). (source_text tables item.source ++ alias_text other) ++ rest) e ∙ append_assoc (source_text tables item.source) [] rest)
           ∙ then_is _ item.source rest (item_with tables) (source-again tables apart item.source rest is ends.name)
@@ -268,15 +258,15 @@ module _ (tables : List Table) (apart : HaveOwnNames tables) where
       ∙ ap (option_map (λ (y : Query × List ℕ). (s.union_all block y.0, y.1))) others
 
   block-is : (n : ℕ) (items : Items) (from : List FromItem) (cond : Where) (bytes behind_items behind_from rest : List ℕ)
-      → ((own : ℕ) → items_at (part_at n own) n bytes ≡ Some (items_under own items, behind_items)) → from_at tables n behind_items ≡ Some (from, behind_from)
+      → ((only : ℕ) → items_at (part_at n only) n bytes ≡ Some (items_under only items, behind_items)) → from_at tables n behind_items ≡ Some (from, behind_from)
       → where_at (part_at n 0) n behind_from ≡ Some (cond, rest) → items_under (table_or_first (only_table from)) items ≡ items
       → block_at tables (part_at n) n bytes ≡ Some (s.select items from cond, rest)
   unfolding block_at
   block-is n items from cond bytes behind_items behind_from rest item source condition same =
-      let own = table_or_first (only_table from) in
+      let only = table_or_first (only_table from) in
       then_is _ (items_under 0 items) behind_items _ (item 0)
       ∙ then_is _ from behind_from _ source
-      ∙ then_is _ (items_under own items) behind_items _ (item own)
+      ∙ then_is _ (items_under only items) behind_items _ (item only)
       ∙ then_is _ cond rest _ condition
       ∙ ap (λ (own_items : Items). Some (s.select own_items from cond, rest)) same
 
@@ -301,164 +291,164 @@ module _ (tables : List Table) (apart : HaveOwnNames tables) where
   right-in x y n few = omega (arith, few)
 
   mutual
-    term-again : (a : Term) (table : Option ℕ) (n own : ℕ) (rest : List ℕ) → term_is_spelled tables table a ≡ true → term_size a < n → Ends rest → part_at n own (term_text tables a ++ rest) ≡ Some (term (term_under own a), rest)
-    term-again a table zero own rest is few ends = absurd (omega (arith, few))
-    term-again (s.column alias c) table (suc n) own rest is few ends =
-        part-suc n own (term_text tables (s.column alias c) ++ rest) ∙ by-named (part_at n own) n tables (query_at n) own alias c rest ∙ ap (column_of tables alias) (column-again tables apart table own c rest is ends)
-    term-again (s.null type) table (suc n) own rest is few ends = part-suc n own (term_text tables (s.null type) ++ rest) ∙ by-null (part_at n own) n tables (query_at n) own type rest
-    term-again (s.number z) table (suc n) own rest is few ends = part-suc n own (signed_decimal z ++ rest) ∙ by-number (part_at n own) n tables (query_at n) own z rest is ends
-    term-again (s.cast_number z) table (suc n) own rest is few ends =
-        enter n own (codes "CAST(" ∷ signed_decimal z ∷ codes " AS BIGINT)" ∷ []) rest
-        ∙ by-cast (part_at n own) n tables (query_at n) own (signed_decimal z ++ (codes " AS BIGINT)" ++ rest)) ∙ by-cast_number (part_at n own) n tables (query_at n) own z rest is
-    term-again (s.text text) table (suc n) own rest is few ends = part-suc n own (term_text tables (s.text text) ++ rest) ∙ by-text (part_at n own) n tables (query_at n) own text rest ends
-    term-again (s.plus a b) table (suc n) own rest is few ends =
+    term-again : (a : Term) (table : Option ℕ) (n only : ℕ) (rest : List ℕ) → term_is_spelled tables table a ≡ true → term_size a < n → Ends rest → part_at n only (term_text tables a ++ rest) ≡ Some (term (term_under only a), rest)
+    term-again a table zero only rest is few ends = absurd (omega (arith, few))
+    term-again (s.column alias c) table (suc n) only rest is few ends =
+        part-suc n only (term_text tables (s.column alias c) ++ rest) ∙ by-named (part_at n only) n tables (query_at n) only alias c rest ∙ ap (column_of tables alias) (column-again tables apart table only c rest is ends)
+    term-again (s.null type) table (suc n) only rest is few ends = part-suc n only (term_text tables (s.null type) ++ rest) ∙ by-null (part_at n only) n tables (query_at n) only type rest
+    term-again (s.number z) table (suc n) only rest is few ends = part-suc n only (signed_decimal z ++ rest) ∙ by-number (part_at n only) n tables (query_at n) only z rest is ends
+    term-again (s.cast_number z) table (suc n) only rest is few ends =
+        enter n only (codes "CAST(" ∷ signed_decimal z ∷ codes " AS BIGINT)" ∷ []) rest
+        ∙ by-cast (part_at n only) n tables (query_at n) only (signed_decimal z ++ (codes " AS BIGINT)" ++ rest)) ∙ by-cast_number (part_at n only) n tables (query_at n) only z rest is
+    term-again (s.text text) table (suc n) only rest is few ends = part-suc n only (term_text tables (s.text text) ++ rest) ∙ by-text (part_at n only) n tables (query_at n) only text rest ends
+    term-again (s.plus a b) table (suc n) only rest is few ends =
         let p = and_parts (term_is_spelled tables None a) (term_is_spelled tables None b) is in
-        enter n own (codes "(" ∷ term_text tables a ∷ codes " + " ∷ term_text tables b ∷ codes ")" ∷ []) rest
-        ∙ by-bracket (part_at n own) n tables (query_at n) own (term_text tables a ++ (codes " + " ++ (term_text tables b ++ (codes ")" ++ rest))))
-        ∙ binary-is (part_at n own) n s.plus a b (codes " + ") (term_text tables a) (term_text tables b) rest (plus-on (part_at n own) n a)
-        (plain n own a _ _ p.0 (term-again a None n own _ p.0 (left-few (term_size a) (term_size b) n few) refl))
-        (plain n own b _ _ p.1 (term-again b None n own _ p.1 (right-few (term_size a) (term_size b) n few) refl))
-    term-again (s.minus a b) table (suc n) own rest is few ends =
+        enter n only (codes "(" ∷ term_text tables a ∷ codes " + " ∷ term_text tables b ∷ codes ")" ∷ []) rest
+        ∙ by-bracket (part_at n only) n tables (query_at n) only (term_text tables a ++ (codes " + " ++ (term_text tables b ++ (codes ")" ++ rest))))
+        ∙ binary-is (part_at n only) n s.plus a b (codes " + ") (term_text tables a) (term_text tables b) rest (plus-on (part_at n only) n a)
+        (plain n only a _ _ p.0 (term-again a None n only _ p.0 (left-few (term_size a) (term_size b) n few) refl))
+        (plain n only b _ _ p.1 (term-again b None n only _ p.1 (right-few (term_size a) (term_size b) n few) refl))
+    term-again (s.minus a b) table (suc n) only rest is few ends =
         let p = and_parts (term_is_spelled tables None a) (term_is_spelled tables None b) is in
-        enter n own (codes "(" ∷ term_text tables a ∷ codes " - " ∷ term_text tables b ∷ codes ")" ∷ []) rest
-        ∙ by-bracket (part_at n own) n tables (query_at n) own (term_text tables a ++ (codes " - " ++ (term_text tables b ++ (codes ")" ++ rest))))
-        ∙ binary-is (part_at n own) n s.minus a b (codes " - ") (term_text tables a) (term_text tables b) rest (minus-on (part_at n own) n a)
-        (plain n own a _ _ p.0 (term-again a None n own _ p.0 (left-few (term_size a) (term_size b) n few) refl))
-        (plain n own b _ _ p.1 (term-again b None n own _ p.1 (right-few (term_size a) (term_size b) n few) refl))
-    term-again (s.times a b) table (suc n) own rest is few ends =
+        enter n only (codes "(" ∷ term_text tables a ∷ codes " - " ∷ term_text tables b ∷ codes ")" ∷ []) rest
+        ∙ by-bracket (part_at n only) n tables (query_at n) only (term_text tables a ++ (codes " - " ++ (term_text tables b ++ (codes ")" ++ rest))))
+        ∙ binary-is (part_at n only) n s.minus a b (codes " - ") (term_text tables a) (term_text tables b) rest (minus-on (part_at n only) n a)
+        (plain n only a _ _ p.0 (term-again a None n only _ p.0 (left-few (term_size a) (term_size b) n few) refl))
+        (plain n only b _ _ p.1 (term-again b None n only _ p.1 (right-few (term_size a) (term_size b) n few) refl))
+    term-again (s.times a b) table (suc n) only rest is few ends =
         let p = and_parts (term_is_spelled tables None a) (term_is_spelled tables None b) is in
-        enter n own (codes "(" ∷ term_text tables a ∷ codes " * " ∷ term_text tables b ∷ codes ")" ∷ []) rest
-        ∙ by-bracket (part_at n own) n tables (query_at n) own (term_text tables a ++ (codes " * " ++ (term_text tables b ++ (codes ")" ++ rest))))
-        ∙ binary-is (part_at n own) n s.times a b (codes " * ") (term_text tables a) (term_text tables b) rest (times-on (part_at n own) n a)
-        (plain n own a _ _ p.0 (term-again a None n own _ p.0 (left-few (term_size a) (term_size b) n few) refl))
-        (plain n own b _ _ p.1 (term-again b None n own _ p.1 (right-few (term_size a) (term_size b) n few) refl))
-    term-again (s.negative a) table (suc zero) own rest is few ends = let h : 2 + term_size a < 1 = few in absurd (omega (arith, h))
-    term-again (s.negative a) table (suc (suc n)) own rest is few ends =
+        enter n only (codes "(" ∷ term_text tables a ∷ codes " * " ∷ term_text tables b ∷ codes ")" ∷ []) rest
+        ∙ by-bracket (part_at n only) n tables (query_at n) only (term_text tables a ++ (codes " * " ++ (term_text tables b ++ (codes ")" ++ rest))))
+        ∙ binary-is (part_at n only) n s.times a b (codes " * ") (term_text tables a) (term_text tables b) rest (times-on (part_at n only) n a)
+        (plain n only a _ _ p.0 (term-again a None n only _ p.0 (left-few (term_size a) (term_size b) n few) refl))
+        (plain n only b _ _ p.1 (term-again b None n only _ p.1 (right-few (term_size a) (term_size b) n few) refl))
+    term-again (s.negative a) table (suc zero) only rest is few ends = let h : 2 + term_size a < 1 = few in absurd (omega (arith, h))
+    term-again (s.negative a) table (suc (suc n)) only rest is few ends =
         let h : 2 + term_size a < suc (suc n) = few in
-        enter (suc n) own (codes "(- " ∷ term_text tables a ∷ codes ")" ∷ []) rest
-        ∙ by-bracket (part_at (suc n) own) (suc n) tables (query_at (suc n)) own (codes "- " ++ (term_text tables a ++ (codes ")" ++ rest)))
-        ∙ opposite-is (part_at (suc n) own) (suc n) a (term_text tables a) rest
-        (part-suc n own (codes "- " ++ (term_text tables a ++ (codes ")" ++ rest)))
-        ∙ by-opposite (part_at n own) n tables (query_at n) own (term_text tables a ++ (codes ")" ++ rest))
-        ∙ ap (option_map (λ (x : Term × List ℕ). (opposite x.0, x.1))) (term-is (part_at n own) n a _ (codes ")" ++ rest) (plain n own a _ _ is (term-again a None n own _ is (omega (arith, h)) refl))))
-    term-again (s.joined s.no_terms) table (suc n) own rest is few ends = absurd (false≢true is)
-    term-again (s.joined (s.term a s.no_terms)) table (suc n) own rest is few ends = absurd (false≢true is)
-    term-again (s.joined (s.term a (s.term b others))) table (suc n) own rest is few ends =
+        enter (suc n) only (codes "(- " ∷ term_text tables a ∷ codes ")" ∷ []) rest
+        ∙ by-bracket (part_at (suc n) only) (suc n) tables (query_at (suc n)) only (codes "- " ++ (term_text tables a ++ (codes ")" ++ rest)))
+        ∙ opposite-is (part_at (suc n) only) (suc n) a (term_text tables a) rest
+        (part-suc n only (codes "- " ++ (term_text tables a ++ (codes ")" ++ rest)))
+        ∙ by-opposite (part_at n only) n tables (query_at n) only (term_text tables a ++ (codes ")" ++ rest))
+        ∙ ap (option_map (λ (x : Term × List ℕ). (opposite x.0, x.1))) (term-is (part_at n only) n a _ (codes ")" ++ rest) (plain n only a _ _ is (term-again a None n only _ is (omega (arith, h)) refl))))
+    term-again (s.joined s.no_terms) table (suc n) only rest is few ends = absurd (false≢true is)
+    term-again (s.joined (s.term a s.no_terms)) table (suc n) only rest is few ends = absurd (false≢true is)
+    term-again (s.joined (s.term a (s.term b others))) table (suc n) only rest is few ends =
         let p = and_parts (term_is_spelled tables None a) (term_is_spelled tables None b && terms_are_spelled tables None others) is in
         let h : 1 + (1 + (term_size a + terms_size (s.term b others))) < suc n = few in
         let later = others_joined tables (s.term b others) ++ (codes ")" ++ rest) in
-        enter n own (codes "(" ∷ joined_text tables (s.term a (s.term b others)) ∷ codes ")" ∷ []) rest
-        ∙ by-bracket (part_at n own) n tables (query_at n) own (joined_text tables (s.term a (s.term b others)) ++ (codes ")" ++ rest))
-        ∙ ap (bracket_at (part_at n own) n) (append_assoc (term_text tables a) (others_joined tables (s.term b others)) (codes ")" ++ rest))
-        ∙ then_is _ (term a) later (first_on (part_at n own) n) (plain n own a _ _ p.0 (term-again a None n own later p.0 (omega (arith, h)) (ends-joined (s.term b others) rest)))
-        ∙ joins-on (part_at n own) n a (concat (term_text tables b ∷ others_joined tables others ∷ []) ++ (codes ")" ++ rest))
+        enter n only (codes "(" ∷ joined_text tables (s.term a (s.term b others)) ∷ codes ")" ∷ []) rest
+        ∙ by-bracket (part_at n only) n tables (query_at n) only (joined_text tables (s.term a (s.term b others)) ++ (codes ")" ++ rest))
+        ∙ ap (bracket_at (part_at n only) n) (append_assoc (term_text tables a) (others_joined tables (s.term b others)) (codes ")" ++ rest))
+        ∙ then_is _ (term a) later (first_on (part_at n only) n) (plain n only a _ _ p.0 (term-again a None n only later p.0 (omega (arith, h)) (ends-joined (s.term b others) rest)))
+        ∙ joins-on (part_at n only) n a (concat (term_text tables b ∷ others_joined tables others ∷ []) ++ (codes ")" ++ rest))
         ∙ then_is _ (s.term b others) (codes ")" ++ rest) (λ (x : Terms × List ℕ). with_rest (term (s.joined (s.term a x.0))) (behind (codes ")") x.1))
-        (joined-again (s.term b others) n n own rest p.1 (omega (arith, h)) (omega (arith, h)))
-    term-again (s.case c a b) table (suc n) own rest is few ends =
+        (joined-again (s.term b others) n n only rest p.1 (omega (arith, h)) (omega (arith, h)))
+    term-again (s.case c a b) table (suc n) only rest is few ends =
         let p = and_parts (test_is_spelled tables c) (term_is_spelled tables None a && term_is_spelled tables None b) is in
         let q = and_parts (term_is_spelled tables None a) (term_is_spelled tables None b) p.1 in
         let h : 1 + (test_size c + (term_size a + term_size b)) < suc n = few in
-        enter n own (codes "CASE WHEN " ∷ test_text tables c ∷ codes " THEN " ∷ term_text tables a ∷ codes " ELSE " ∷ term_text tables b ∷ codes " END" ∷ []) rest
-        ∙ by-case (part_at n own) n tables (query_at n) own (test_text tables c ++ (codes " THEN " ++ (term_text tables a ++ (codes " ELSE " ++ (term_text tables b ++ (codes " END" ++ rest))))))
-        ∙ case-is (part_at n own) n c a b (test_text tables c) (term_text tables a) (term_text tables b) rest (test-starts c n own _ p.0 (omega (arith, h)) refl)
-        (plain n own a _ _ q.0 (term-again a None n own _ q.0 (omega (arith, h)) refl))
-        (plain n own b _ _ q.1 (term-again b None n own _ q.1 (omega (arith, h)) refl))
+        enter n only (codes "CASE WHEN " ∷ test_text tables c ∷ codes " THEN " ∷ term_text tables a ∷ codes " ELSE " ∷ term_text tables b ∷ codes " END" ∷ []) rest
+        ∙ by-case (part_at n only) n tables (query_at n) only (test_text tables c ++ (codes " THEN " ++ (term_text tables a ++ (codes " ELSE " ++ (term_text tables b ++ (codes " END" ++ rest))))))
+        ∙ case-is (part_at n only) n c a b (test_text tables c) (term_text tables a) (term_text tables b) rest (test-starts c n only _ p.0 (omega (arith, h)) refl)
+        (plain n only a _ _ q.0 (term-again a None n only _ q.0 (omega (arith, h)) refl))
+        (plain n only b _ _ q.1 (term-again b None n only _ q.1 (omega (arith, h)) refl))
 
-    joined-again : (terms : Terms) (k n own : ℕ) (rest : List ℕ) → terms_are_spelled tables None terms ≡ true → terms_size terms ≤ k → terms_size terms < n
-        → joined_at (part_at n own) n k (others_joined tables terms ++ (codes ")" ++ rest)) ≡ Some (terms, codes ")" ++ rest)
-    joined-again s.no_terms zero n own rest is few less = refl
-    joined-again s.no_terms (suc k) n own rest is few less = refl
-    joined-again (s.term a others) zero n own rest is few less = let h : 1 + (term_size a + terms_size others) ≤ 0 = few in absurd (omega (arith, h))
-    joined-again (s.term a others) (suc k) n own rest is few less =
+    joined-again : (terms : Terms) (k n only : ℕ) (rest : List ℕ) → terms_are_spelled tables None terms ≡ true → terms_size terms ≤ k → terms_size terms < n
+        → joined_at (part_at n only) n k (others_joined tables terms ++ (codes ")" ++ rest)) ≡ Some (terms, codes ")" ++ rest)
+    joined-again s.no_terms zero n only rest is few less = refl
+    joined-again s.no_terms (suc k) n only rest is few less = refl
+    joined-again (s.term a others) zero n only rest is few less = let h : 1 + (term_size a + terms_size others) ≤ 0 = few in absurd (omega (arith, h))
+    joined-again (s.term a others) (suc k) n only rest is few less =
         let p = and_parts (term_is_spelled tables None a) (terms_are_spelled tables None others) is in
         let h : 1 + (term_size a + terms_size others) ≤ suc k = few in
         let later = others_joined tables others ++ (codes ")" ++ rest) in
-        ap (joined_at (part_at n own) n (suc k)) (concat-onto (codes " || " ∷ term_text tables a ∷ others_joined tables others ∷ []) (codes ")" ++ rest))
-        ∙ then_is _ a later (λ (x : Term × List ℕ). option_and_then (λ (y : Terms × List ℕ). Some (s.term x.0 y.0, y.1)) (joined_at (part_at n own) n k x.1))
-        (term-is (part_at n own) n a _ later (plain n own a _ _ p.0 (term-again a None n own later p.0 (left-in (term_size a) (terms_size others) n less) (ends-joined others rest))))
-        ∙ then_is _ others (codes ")" ++ rest) (λ (y : Terms × List ℕ). Some (s.term a y.0, y.1)) (joined-again others k n own rest p.1 (omega (arith, h)) (right-in (term_size a) (terms_size others) n less))
+        ap (joined_at (part_at n only) n (suc k)) (concat-onto (codes " || " ∷ term_text tables a ∷ others_joined tables others ∷ []) (codes ")" ++ rest))
+        ∙ then_is _ a later (λ (x : Term × List ℕ). option_and_then (λ (y : Terms × List ℕ). Some (s.term x.0 y.0, y.1)) (joined_at (part_at n only) n k x.1))
+        (term-is (part_at n only) n a _ later (plain n only a _ _ p.0 (term-again a None n only later p.0 (left-in (term_size a) (terms_size others) n less) (ends-joined others rest))))
+        ∙ then_is _ others (codes ")" ++ rest) (λ (y : Terms × List ℕ). Some (s.term a y.0, y.1)) (joined-again others k n only rest p.1 (omega (arith, h)) (right-in (term_size a) (terms_size others) n less))
 
-    test-starts : (c : Test) (n own : ℕ) (rest : List ℕ) → test_is_spelled tables c ≡ true → test_size c < n → Ends rest → Starts (part_at n own) n c (test_text tables c) rest
-    test-starts (s.compare op a b) n own rest is few ends =
+    test-starts : (c : Test) (n only : ℕ) (rest : List ℕ) → test_is_spelled tables c ≡ true → test_size c < n → Ends rest → Starts (part_at n only) n c (test_text tables c) rest
+    test-starts (s.compare op a b) n only rest is few ends =
         let p = and_parts (term_is_spelled tables None a) (term_is_spelled tables None b) is in
-        compare-starts (part_at n own) n op a b (term_text tables a) (term_text tables b) rest
-        (plain n own a _ _ p.0 (term-again a None n own (cmp_text op ++ (term_text tables b ++ rest)) p.0 (left-in (term_size a) (term_size b) n few) (cmp-ends op (term_text tables b ++ rest))))
-        (plain n own b _ _ p.1 (term-again b None n own rest p.1 (right-in (term_size a) (term_size b) n few) ends))
-    test-starts (s.is_null a true) n own rest is few ends =
-        null-starts (part_at n own) n a true (term_text tables a) rest (λ words ends. plain n own a _ _ is (term-again a None n own (codes " " ++ words) is (one-in (term_size a) n few) ends))
-    test-starts (s.is_null a false) n own rest is few ends =
-        null-starts (part_at n own) n a false (term_text tables a) rest (λ words ends. plain n own a _ _ is (term-again a None n own (codes " " ++ words) is (one-in (term_size a) n few) ends))
-    test-starts (s.is_true c true) n own rest is few ends =
+        compare-starts (part_at n only) n op a b (term_text tables a) (term_text tables b) rest
+        (plain n only a _ _ p.0 (term-again a None n only (cmp_text op ++ (term_text tables b ++ rest)) p.0 (left-in (term_size a) (term_size b) n few) (cmp-ends op (term_text tables b ++ rest))))
+        (plain n only b _ _ p.1 (term-again b None n only rest p.1 (right-in (term_size a) (term_size b) n few) ends))
+    test-starts (s.is_null a true) n only rest is few ends =
+        null-starts (part_at n only) n a true (term_text tables a) rest (λ words ends. plain n only a _ _ is (term-again a None n only (codes " " ++ words) is (one-in (term_size a) n few) ends))
+    test-starts (s.is_null a false) n only rest is few ends =
+        null-starts (part_at n only) n a false (term_text tables a) rest (λ words ends. plain n only a _ _ is (term-again a None n only (codes " " ++ words) is (one-in (term_size a) n few) ends))
+    test-starts (s.is_true c true) n only rest is few ends =
         let p = and_parts (is_unit c) (test_is_spelled tables c) is in
-        true-starts (part_at n own) n c true (test_text tables c) rest p.0 (λ words. test-starts c n own (codes " IS " ++ words) p.1 (one-in (test_size c) n few) refl)
-    test-starts (s.is_true c false) n own rest is few ends =
+        true-starts (part_at n only) n c true (test_text tables c) rest p.0 (λ words. test-starts c n only (codes " IS " ++ words) p.1 (one-in (test_size c) n few) refl)
+    test-starts (s.is_true c false) n only rest is few ends =
         let p = and_parts (is_unit c) (test_is_spelled tables c) is in
-        true-starts (part_at n own) n c false (test_text tables c) rest p.0 (λ words. test-starts c n own (codes " IS " ++ words) p.1 (one-in (test_size c) n few) refl)
-    test-starts (s.and c d) n own rest is few ends =
+        true-starts (part_at n only) n c false (test_text tables c) rest p.0 (λ words. test-starts c n only (codes " IS " ++ words) p.1 (one-in (test_size c) n few) refl)
+    test-starts (s.and c d) n only rest is few ends =
         let p = and_parts (is_chain c && is_unit d) (test_is_spelled tables c && test_is_spelled tables d) is in
         let shape = and_parts (is_chain c) (is_unit d) p.0 in
         let good = and_parts (test_is_spelled tables c) (test_is_spelled tables d) p.1 in
         let h : 1 + (test_size c + test_size d) < n = few in
-        and-starts (part_at n own) n c d (test_text tables c) (test_text tables d) rest (omega (arith, h, few-ands c)) shape.0 shape.1
-        (test-starts c n own (codes " AND " ++ (test_text tables d ++ rest)) good.0 (left-in (test_size c) (test_size d) n few) refl) (test-starts d n own rest good.1 (right-in (test_size c) (test_size d) n few) ends)
-    test-starts (s.or c d) n own rest is few ends =
+        and-starts (part_at n only) n c d (test_text tables c) (test_text tables d) rest (omega (arith, h, few-ands c)) shape.0 shape.1
+        (test-starts c n only (codes " AND " ++ (test_text tables d ++ rest)) good.0 (left-in (test_size c) (test_size d) n few) refl) (test-starts d n only rest good.1 (right-in (test_size c) (test_size d) n few) ends)
+    test-starts (s.or c d) n only rest is few ends =
         let p = and_parts (is_unit c && is_unit d) (test_is_spelled tables c && test_is_spelled tables d) is in
         let shape = and_parts (is_unit c) (is_unit d) p.0 in
         let good = and_parts (test_is_spelled tables c) (test_is_spelled tables d) p.1 in
-        or-starts (part_at n own) n c d (test_text tables c) (test_text tables d) rest shape.0 shape.1
-        (test-starts c n own (codes " OR " ++ (test_text tables d ++ rest)) good.0 (left-in (test_size c) (test_size d) n few) refl) (test-starts d n own rest good.1 (right-in (test_size c) (test_size d) n few) ends)
-    test-starts (s.not c) zero own rest is few ends = absurd (omega (arith, few))
-    test-starts (s.not c) (suc n) own rest is few ends =
+        or-starts (part_at n only) n c d (test_text tables c) (test_text tables d) rest shape.0 shape.1
+        (test-starts c n only (codes " OR " ++ (test_text tables d ++ rest)) good.0 (left-in (test_size c) (test_size d) n few) refl) (test-starts d n only rest good.1 (right-in (test_size c) (test_size d) n few) ends)
+    test-starts (s.not c) zero only rest is few ends = absurd (omega (arith, few))
+    test-starts (s.not c) (suc n) only rest is few ends =
         let p = and_parts (is_unit c) (test_is_spelled tables c) is in
-        part-starts (part_at (suc n) own) (suc n) (s.not c) (test_text tables (s.not c)) rest refl
-        (enter n own (codes "NOT " ∷ test_text tables c ∷ []) rest ∙ by-not (part_at n own) n tables (query_at n) own (test_text tables c ++ rest)
-        ∙ ap (option_map (λ (x : Test × List ℕ). (test (s.not x.0), x.1))) (unit-again (part_at n own) n c (test_text tables c) rest (test-starts c n own rest p.1 (one-few (test_size c) n few) ends) p.0))
-    test-starts (s.exists query) zero own rest is few ends = absurd (omega (arith, few))
-    test-starts (s.exists query) (suc n) own rest is few ends =
-        part-starts (part_at (suc n) own) (suc n) (s.exists query) (test_text tables (s.exists query)) rest refl
-        (enter n own (codes "EXISTS (" ∷ query_text tables query ∷ codes ")" ∷ []) rest ∙ by-exists (part_at n own) n tables (query_at n) own (query_text tables query ++ (codes ")" ++ rest))
+        part-starts (part_at (suc n) only) (suc n) (s.not c) (test_text tables (s.not c)) rest refl
+        (enter n only (codes "NOT " ∷ test_text tables c ∷ []) rest ∙ by-not (part_at n only) n tables (query_at n) only (test_text tables c ++ rest)
+        ∙ ap (option_map (λ (x : Test × List ℕ). (test (s.not x.0), x.1))) (unit-again (part_at n only) n c (test_text tables c) rest (test-starts c n only rest p.1 (one-few (test_size c) n few) ends) p.0))
+    test-starts (s.exists query) zero only rest is few ends = absurd (omega (arith, few))
+    test-starts (s.exists query) (suc n) only rest is few ends =
+        part-starts (part_at (suc n) only) (suc n) (s.exists query) (test_text tables (s.exists query)) rest refl
+        (enter n only (codes "EXISTS (" ∷ query_text tables query ∷ codes ")" ∷ []) rest ∙ by-exists (part_at n only) n tables (query_at n) only (query_text tables query ++ (codes ")" ++ rest))
         ∙ then_is _ query (codes ")" ++ rest) (λ (x : Query × List ℕ). with_rest (test (s.exists x.0)) (behind (codes ")") x.1)) (query-again query n (codes ")" ++ rest) is (one-few (query_size query) n few) (ends-bracket rest) refl))
-    test-starts (s.bracket c) zero own rest is few ends = absurd (omega (arith, few))
-    test-starts (s.bracket c) (suc n) own rest is few ends =
-        part-starts (part_at (suc n) own) (suc n) (s.bracket c) (test_text tables (s.bracket c)) rest refl
-        (enter n own (codes "(" ∷ test_text tables c ∷ codes ")" ∷ []) rest ∙ by-bracket (part_at n own) n tables (query_at n) own (test_text tables c ++ (codes ")" ++ rest))
-        ∙ bracket-is (part_at n own) n c (test_text tables c) rest (test-starts c n own (codes ")" ++ rest) is (one-few (test_size c) n few) refl))
+    test-starts (s.bracket c) zero only rest is few ends = absurd (omega (arith, few))
+    test-starts (s.bracket c) (suc n) only rest is few ends =
+        part-starts (part_at (suc n) only) (suc n) (s.bracket c) (test_text tables (s.bracket c)) rest refl
+        (enter n only (codes "(" ∷ test_text tables c ∷ codes ")" ∷ []) rest ∙ by-bracket (part_at n only) n tables (query_at n) only (test_text tables c ++ (codes ")" ++ rest))
+        ∙ bracket-is (part_at n only) n c (test_text tables c) rest (test-starts c n only (codes ")" ++ rest) is (one-few (test_size c) n few) refl))
 
-    others-again : (terms : Terms) (table : Option ℕ) (k m n own : ℕ) (rest : List ℕ) → terms_are_spelled tables table terms ≡ true → terms_size terms ≤ k → terms_size terms < n → EndsItem rest
-        → others_at (part_at n own) n k m (others_named tables m terms ++ rest) ≡ Some (terms_under own terms, rest)
-    others-again s.no_terms table zero m n own rest is few less ends = refl
-    others-again s.no_terms table (suc k) m n own rest is few less ends = rw ends.comma refl
-    others-again (s.term a others) table zero m n own rest is few less ends = let h : 1 + (term_size a + terms_size others) ≤ 0 = few in absurd (omega (arith, h))
-    others-again (s.term a others) table (suc k) m n own rest is few less ends =
+    others-again : (terms : Terms) (table : Option ℕ) (k m n only : ℕ) (rest : List ℕ) → terms_are_spelled tables table terms ≡ true → terms_size terms ≤ k → terms_size terms < n → EndsItem rest
+        → others_at (part_at n only) n k m (others_named tables m terms ++ rest) ≡ Some (terms_under only terms, rest)
+    others-again s.no_terms table zero m n only rest is few less ends = refl
+    others-again s.no_terms table (suc k) m n only rest is few less ends = rw ends.comma refl
+    others-again (s.term a others) table zero m n only rest is few less ends = let h : 1 + (term_size a + terms_size others) ≤ 0 = few in absurd (omega (arith, h))
+    others-again (s.term a others) table (suc k) m n only rest is few less ends =
         let p = and_parts (term_is_spelled tables table a) (terms_are_spelled tables table others) is in
         let h : 1 + (term_size a + terms_size others) ≤ suc k = few in
         let later = others_named tables (suc m) others ++ rest in
-        let onto_others : Term × List ℕ → Read Terms = λ (x : Term × List ℕ). if_there (behind (codes " AS c") x.1) (λ number. if_there (behind (decimal m) number) (λ after. option_and_then (λ (y : Terms × List ℕ). Some (s.term x.0 y.0, y.1)) (others_at (part_at n own) n k (suc m) after)) None) None in
-        ap (others_at (part_at n own) n (suc k) m) (concat-onto (codes ", " ∷ term_text tables a ∷ codes " AS c" ∷ decimal m ∷ others_named tables (suc m) others ∷ []) rest)
-        ∙ then_is _ (term_under own a) (codes " AS c" ++ (decimal m ++ later)) onto_others
-        (term-is (part_at n own) n (term_under own a) _ (codes " AS c" ++ (decimal m ++ later)) (term-again a table n own (codes " AS c" ++ (decimal m ++ later)) p.0 (left-in (term_size a) (terms_size others) n less) refl))
-        ∙ number-behind (decimal m) later (λ after. option_and_then (λ (y : Terms × List ℕ). Some (s.term (term_under own a) y.0, y.1)) (others_at (part_at n own) n k (suc m) after))
-        ∙ then_is _ (terms_under own others) rest (λ (y : Terms × List ℕ). Some (s.term (term_under own a) y.0, y.1))
-        (others-again others table k (suc m) n own rest p.1 (omega (arith, h)) (right-in (term_size a) (terms_size others) n less) ends)
+        let onto_others : Term × List ℕ → Read Terms = λ (x : Term × List ℕ). if_there (behind (codes " AS c") x.1) (λ number. if_there (behind (decimal m) number) (λ after. option_and_then (λ (y : Terms × List ℕ). Some (s.term x.0 y.0, y.1)) (others_at (part_at n only) n k (suc m) after)) None) None in
+        ap (others_at (part_at n only) n (suc k) m) (concat-onto (codes ", " ∷ term_text tables a ∷ codes " AS c" ∷ decimal m ∷ others_named tables (suc m) others ∷ []) rest)
+        ∙ then_is _ (term_under only a) (codes " AS c" ++ (decimal m ++ later)) onto_others
+        (term-is (part_at n only) n (term_under only a) _ (codes " AS c" ++ (decimal m ++ later)) (term-again a table n only (codes " AS c" ++ (decimal m ++ later)) p.0 (left-in (term_size a) (terms_size others) n less) refl))
+        ∙ number-behind (decimal m) later (λ after. option_and_then (λ (y : Terms × List ℕ). Some (s.term (term_under only a) y.0, y.1)) (others_at (part_at n only) n k (suc m) after))
+        ∙ then_is _ (terms_under only others) rest (λ (y : Terms × List ℕ). Some (s.term (term_under only a) y.0, y.1))
+        (others-again others table k (suc m) n only rest p.1 (omega (arith, h)) (right-in (term_size a) (terms_size others) n less) ends)
 
-    items-again : (items : Items) (table : Option ℕ) (n own : ℕ) (rest : List ℕ) → items_are_spelled tables table items ≡ true → items_size items < n → EndsItem rest
-        → items_at (part_at n own) n (items_text tables items ++ rest) ≡ Some (items_under own items, rest)
-    items-again s.all table zero own rest is few ends = absurd (omega (arith, few))
-    items-again s.all table (suc n) own rest is few ends =
-        then_is _ star rest (items_on (part_at (suc n) own) (suc n)) (part-suc n own (codes "*" ++ rest) ∙ by-star (part_at n own) n tables (query_at n) own rest)
-    items-again (s.named s.no_terms) table n own rest is few ends = absurd (false≢true is)
-    items-again (s.named (s.term a others)) table n own rest is few ends =
+    items-again : (items : Items) (table : Option ℕ) (n only : ℕ) (rest : List ℕ) → items_are_spelled tables table items ≡ true → items_size items < n → EndsItem rest
+        → items_at (part_at n only) n (items_text tables items ++ rest) ≡ Some (items_under only items, rest)
+    items-again s.all table zero only rest is few ends = absurd (omega (arith, few))
+    items-again s.all table (suc n) only rest is few ends =
+        then_is _ star rest (items_on (part_at (suc n) only) (suc n)) (part-suc n only (codes "*" ++ rest) ∙ by-star (part_at n only) n tables (query_at n) only rest)
+    items-again (s.named s.no_terms) table n only rest is few ends = absurd (false≢true is)
+    items-again (s.named (s.term a others)) table n only rest is few ends =
         let p = and_parts (term_is_spelled tables table a) (terms_are_spelled tables table others) is in
         let h : 1 + (term_size a + terms_size others) < n = few in
         let later = others_named tables 2 others ++ rest in
-        ap (items_at (part_at n own) n) (concat-onto (term_text tables a ∷ codes " AS c" ∷ decimal 1 ∷ others_named tables 2 others ∷ []) rest)
-        ∙ then_is _ (term (term_under own a)) (codes " AS c" ++ (decimal 1 ++ later)) (items_on (part_at n own) n)
-        (term-again a table n own (codes " AS c" ++ (decimal 1 ++ later)) p.0 (left-in (term_size a) (terms_size others) n few) refl)
-        ∙ number-behind (decimal 1) later (λ after. option_and_then (λ (y : Terms × List ℕ). Some (s.named (s.term (term_under own a) y.0), y.1)) (others_at (part_at n own) n n 2 after))
-        ∙ then_is _ (terms_under own others) rest (λ (y : Terms × List ℕ). Some (s.named (s.term (term_under own a) y.0), y.1))
-        (others-again others table n 2 n own rest p.1 (omega (arith, h)) (right-in (term_size a) (terms_size others) n few) ends)
-    items-again (s.single a) table n own rest is few ends =
-        then_is _ (term a) rest (items_on (part_at n own) n) (plain n own a _ _ is (term-again a None n own rest is few ends.ends)) ∙ rw ends.named refl
+        ap (items_at (part_at n only) n) (concat-onto (term_text tables a ∷ codes " AS c" ∷ decimal 1 ∷ others_named tables 2 others ∷ []) rest)
+        ∙ then_is _ (term (term_under only a)) (codes " AS c" ++ (decimal 1 ++ later)) (items_on (part_at n only) n)
+        (term-again a table n only (codes " AS c" ++ (decimal 1 ++ later)) p.0 (left-in (term_size a) (terms_size others) n few) refl)
+        ∙ number-behind (decimal 1) later (λ after. option_and_then (λ (y : Terms × List ℕ). Some (s.named (s.term (term_under only a) y.0), y.1)) (others_at (part_at n only) n n 2 after))
+        ∙ then_is _ (terms_under only others) rest (λ (y : Terms × List ℕ). Some (s.named (s.term (term_under only a) y.0), y.1))
+        (others-again others table n 2 n only rest p.1 (omega (arith, h)) (right-in (term_size a) (terms_size others) n few) ends)
+    items-again (s.single a) table n only rest is few ends =
+        then_is _ (term a) rest (items_on (part_at n only) n) (plain n only a _ _ is (term-again a None n only rest is few ends.ends)) ∙ rw ends.named refl
 
     where-again : (cond : Where) (n : ℕ) (rest : List ℕ) → where_is_spelled tables cond ≡ true → where_size cond < n → EndsBlock rest → where_at (part_at n 0) n (where_text tables cond ++ rest) ≡ Some (cond, rest)
     where-again s.everywhere n rest is few ends = rw ends.where_none refl
@@ -476,7 +466,7 @@ module _ (tables : List Table) (apart : HaveOwnNames tables) where
         let ends_from = ends-where cond rest ends in
         let ends_items = ends-from from behind_from ends_from in
         block-is n items from cond (items_text tables items ++ behind_items) behind_items behind_from rest
-        (λ own. items-again items (only_table from) n own behind_items p.0 (omega (arith, h)) ends_items)
+        (λ only. items-again items (only_table from) n only behind_items p.0 (omega (arith, h)) ends_items)
         (from-again from n behind_from q.0 (omega (arith, h)) ends_from) (where-again cond n rest q.1 (omega (arith, h)) ends)
         (items-same (only_table from) (table_or_first (only_table from)) items (own-suits (only_table from)) p.0)
 

@@ -1,18 +1,15 @@
 -- Truth of connectives, as WHERE asks for it, and the comparisons of versions, identities and marks.
-use Rattle.std.proofs.Common.{◌≡◌, ℕ, Bool, true, false, cond, leb, ltb, Some, None, pos, refl, sym, ap, ◌∙◌, arith}
-use Rattle.std.specs.Prelude.{◌&&◌, ◌||◌, not, Option, nat_le, nat_lt}
+use Rattle.gp_sql.proofs.Prelude.{◌≡◌, ℕ, Bool, true, false, cond, ltb, Some, None, pos, refl, sym, ap, ◌∙◌, arith, ◌&&◌, not, Option, leb-true, ltb-true, Cell, both, either, negation, known, holds, tested, compared, is_same_id, is_marked, same-exact}
+use Rattle.std.proofs.Common.{leb}
+use Rattle.std.specs.Prelude.{nat_le, nat_lt}
 use Rattle.std.specs.Ordering.{is_le, is_lt, int_cmp}
 use Rattle.std.specs.declared.cmp.Ordering.TheVariants.{Less, Equal, Greater}
-use Rattle.std.proofs.lemmas.Bool.{false_from_ne_true, leb-true, ltb-true, ltb-false, le-leb}
-use Rattle.gp_base.specs.declared.cell.Cell.{Cell}
+use Rattle.std.proofs.lemmas.Bool.{false_from_ne_true, ltb-false, le-leb}
 use Rattle.gp_base.specs.declared.cell.Cell.TheVariants as cell
 use Rattle.gp_expr.specs.declared.expr.Cmp.TheVariants as cmp
 use Rattle.gp_expr.specs.declared.ternary.Ternary.{Ternary}
 use Rattle.gp_expr.specs.declared.ternary.Ternary.TheVariants.{True, False, Unknown}
 use Rattle.gp_expr.specs.Values as v
-use Rattle.gp_expr.specs.Values.{both, either, negation, known, holds, tested, compared}
-use Rattle.gp_algebra.specs.Plain.{is_same_id, is_marked}
-use Rattle.gp_versions.proofs.SameLemmas.{same-exact}
 use Rattle.gp_versions.specs.Spans.{is_before_end}
 use Rattle.gp_sql.specs.declared.cell_type.CellType.TheVariants.{Id, Mark}
 use Rattle.gp_sql.specs.SqlCells.{sql_cell}
@@ -34,13 +31,6 @@ holds-both False b = refl
 holds-both Unknown True = refl
 holds-both Unknown False = refl
 holds-both Unknown Unknown = refl
-
-pub holds-either : (a b : Ternary) → holds (either a b) ≡ (holds a || holds b)
-holds-either True b = refl
-holds-either False b = refl
-holds-either Unknown True = refl
-holds-either Unknown False = refl
-holds-either Unknown Unknown = refl
 
 -- ---- versions
 

@@ -1,24 +1,12 @@
 -- The value of an expression has its type, and the rows of a query have its types.
-use Rattle.std.proofs.Common.{◌≡◌, ℕ, zero, suc, Bool, true, false, cond, List, [], ◌∷◌, ◌++◌, map, Some, None, ℤ, refl}
-use Rattle.std.specs.Prelude.{Option, neg_ℤ, ◌+ℤ◌, ◌-ℤ◌, ◌*ℤ◌, ◌&&◌, slice_get, get_or, filter}
-use Rattle.std.specs.List.{AllByRecursion, flat_map}
-use Rattle.gp_base.proofs.SmallLemmas.{each_append, each_map, each_flat_map}
-use Rattle.gp_base.specs.declared.cell.Cell.{Cell}
+use Rattle.gp_sql.proofs.Prelude.{◌≡◌, ℕ, zero, suc, Bool, true, false, cond, List, [], ◌∷◌, ◌++◌, map, Some, None, ℤ, refl, Option, ◌+ℤ◌, ◌-ℤ◌, ◌*ℤ◌, ◌&&◌, slice_get, filter, AllByRecursion, flat_map, each_append, Cell, Table, unannotated, fits_number, and_parts, and_from, Sources, Expr, Cond, Parts, column, on_numbers, negated, with_source, made_identity, holds, truth, value, identities, passes, values, encoded_row, Plain, StepRows, published_onto, meaning, Span, holds_at, row_of, spans_at, rows_at}
+use Rattle.std.specs.Prelude.{neg_ℤ, get_or}
+use Rattle.gp_base.proofs.SmallLemmas.{each_map, each_flat_map}
 use Rattle.gp_base.specs.declared.cell.Cell.TheVariants as cell
-use Rattle.gp_base.specs.declared.table.Table.{Table}
-use Rattle.gp_base.specs.Annotated.{Annotated, unannotated}
-use Rattle.gp_base.specs.Cells.{fits_number}
-use Rattle.std.proofs.lemmas.Bool.{and_parts, and_from}
-use Rattle.gp_base.specs.Identities.{Sources}
+use Rattle.gp_base.specs.Annotated.{Annotated}
 use Rattle.gp_expr.specs.Expressions as e
-use Rattle.gp_expr.specs.Expressions.{Expr, Cond, Parts}
-use Rattle.gp_expr.specs.Values.{column, number, on_numbers, negated, with_source, made_identity, holds, truth, value, identities, passes}
-use Rattle.gp_algebra.specs.Answers.{values}
-use Rattle.gp_algebra.specs.Encoding.{encoded_row}
+use Rattle.gp_expr.specs.Values.{number}
 use Rattle.gp_algebra.specs.Plain as p
-use Rattle.gp_algebra.specs.Plain.{Plain, StepRows, published_onto, meaning}
-use Rattle.gp_versions.specs.declared.span.Span.{Span}
-use Rattle.gp_versions.specs.Spans.{holds_at, row_of, spans_at, rows_at}
 use Rattle.gp_sql.specs.declared.cell_type.CellType.{CellType}
 use Rattle.gp_sql.specs.declared.cell_type.CellType.TheVariants.{Null, Int, Text, Id, Mark}
 use Rattle.gp_sql.specs.Types.{IsOf, AreOf, are_u32, numbers_fit, all_numbers_fit, is_id, cell_type, common, is_numeric, type_at, negation_type, arithmetic_type, case_type, expr_type, cond_is_typed, parts_are_ids, with_first, exprs_types, row_types, common_types, both_types, rows_types, column_types, scan_types, selected_types, projected_types, product_types, are_published, published_types, StepTypes, query_types}

@@ -1,13 +1,5 @@
 -- A text spells one query.
-use Rattle.std.proofs.Common.{◌≡◌, ℕ, suc, ◌+◌, ◌<◌, ◌≤◌, Bool, true, false, ltb, List, [], ◌∷◌, ◌++◌, length, Some, None, option_and_then, refl, sym, ap, ◌∙◌, append-nil, arith}
-use Rattle.std.specs.Prelude.{codes, ◌&&◌}
-use Rattle.std.specs.List.{concat, flat_map, list_all}
-use Rattle.std.specs.Option.{option_map}
-use Rattle.std.proofs.lemmas.Bool.{and_parts, and_from, ltb-true, lt-ltb}
-use Rattle.gp_base.specs.declared.table.Table.{Table}
-use Rattle.gp_base.specs.Numbered.{newline}
-use Rattle.gp_plantext.specs.Leaves.{with_rest, behind}
-use Rattle.gp_plantext.proofs.Rests.{concat-onto, then_is}
+use Rattle.gp_sql.proofs.Prelude.{◌≡◌, ℕ, suc, ◌+◌, ◌<◌, ◌≤◌, Bool, true, false, ltb, List, [], ◌∷◌, ◌++◌, length, Some, None, option_and_then, refl, sym, ap, ◌∙◌, append-nil, arith, codes, ◌&&◌, concat, flat_map, list_all, option_map, and_parts, and_from, ltb-true, lt-ltb, Table, newline, with_rest, behind, concat-onto, then_is}
 use Rattle.gp_sql.specs.Spelled.{HaveOwnNames, source_is_spelled, query_is_spelled, named_is_spelled, is_spelled}
 use Rattle.gp_sql.specs.Spelling.{materialized_text, source_text, query_text, expression_text, other_expression, expressions_text, with_text}
 use Rattle.gp_sql.specs.Sql as s

@@ -1,29 +1,19 @@
 -- What the pieces of queries are together.
-use Rattle.std.proofs.Common.{◌≡◌, ℕ, suc, ◌+◌, Bool, true, false, List, [], ◌∷◌, ◌++◌, drop, length, take, Some, None, refl, sym, ap, subst, ◌∙◌, append_assoc, append-nil, codes}
-use Rattle.std.specs.Prelude.{Option, slice_get, ◌||◌}
-use Rattle.std.specs.List.{concat, flat_map}
+use Rattle.gp_sql.proofs.Prelude.{◌≡◌, ℕ, suc, ◌+◌, Bool, true, false, List, [], ◌∷◌, ◌++◌, length, Some, None, refl, sym, ap, subst, ◌∙◌, append_assoc, append-nil, Option, slice_get, ◌||◌, concat, flat_map, Cell, Table, newline, Plain, PlainStep, option_map_or, width_of}
+use Rattle.std.proofs.Common.{codes}
 use Rattle.std.proofs.lemmas.Grind.{flat_map-append}
-use Rattle.std.proofs.lemmas.Option.{same_Some}
-use Rattle.gp_base.specs.declared.cell.Cell.{Cell}
-use Rattle.gp_base.specs.declared.table.Table.{Table}
-use Rattle.gp_base.specs.Numbered.{newline}
-use Rattle.gp_expr.specs.Expressions.{Expr, Cond}
 use Rattle.gp_algebra.specs.Plain as p
-use Rattle.gp_algebra.specs.Plain.{Plain, PlainStep}
 use Rattle.gp_sql.specs.declared.cell_type.CellType.{CellType}
 use Rattle.gp_sql.specs.declared.query_types.StepType.{StepType}
 use Rattle.gp_sql.specs.declared.query_writer.Operand.{Operand as Found}
-use Rattle.gp_sql.specs.NamedQueries.{Translated, all_of, columns_of, program_query, stored_terms, crossed, from, given_block, given_query, is_projection, operand, published_query, translated, translated_steps, types_of, written_query}
-use Rattle.std.specs.Option.{option_map_or}
-use Rattle.gp_algebra.specs.Statements.{width_of}
+use Rattle.gp_sql.specs.NamedQueries.{all_of, columns_of, program_query, stored_terms, from, given_block, given_query, is_projection, operand, published_query, translated, translated_steps, types_of, written_query}
 use Rattle.gp_sql.specs.ItemTexts.{columns_text, stored_text}
 use Rattle.gp_sql.specs.Spelling.{block_text, named_text, with_text, expression_text, expressions_text, items_text, materialized_text, other_expression, query_text, source_text, term_text, test_text}
 use Rattle.gp_sql.specs.Sql as s
 use Rattle.gp_sql.specs.Sql.{NamedQuery}
 use Rattle.gp_sql.specs.StepLists.{types_after}
-use Rattle.gp_sql.specs.Translation.{cond_test, exprs_terms}
 use Rattle.gp_sql.specs.Types.{StepTypes, no_types, query_types, steps_types, with_types}
-use Rattle.gp_sql.specs.WrittenQueries.{assembled, Writes, WritesOperand, WritesStep, WritesSteps, expressions_of, columns_at, given_behind, numbered_operand, source_of, step_number, table_name}
+use Rattle.gp_sql.specs.WrittenQueries.{assembled, Writes, WritesOperand, WritesStep, WritesSteps, expressions_of, columns_at, given_behind, numbered_operand, source_of, table_name}
 use Rattle.gp_sql.proofs.IdentityTexts.{concat-onto}
 use Rattle.gp_sql.proofs.ItemLemmas.{crossed-items, stored-items, stored-none}
 
@@ -33,9 +23,9 @@ pub given-text : (tables : List Table) (due : List CellType) (row : List Cell) (
     → query_text tables (given_query due row rows) ≡ block_text tables (given_block due row) ++ flat_map (given_behind tables due) rows
 given-text tables due row [] = sym (append-nil (block_text tables (given_block due row)))
 given-text tables due row (next ∷ rows) =
-    let own : List ℕ = block_text tables (given_block due row) in
-    ap (λ (z : List ℕ). own ++ (codes " UNION ALL " ++ z)) (append-nil (query_text tables (given_query due next rows)) ∙ given-text tables due next rows)
-    ∙ ap (λ (z : List ℕ). own ++ z) (sym (append_assoc (codes " UNION ALL ") (block_text tables (given_block due next)) (flat_map (given_behind tables due) rows)))
+    let body : List ℕ = block_text tables (given_block due row) in
+    ap (λ (z : List ℕ). body ++ (codes " UNION ALL " ++ z)) (append-nil (query_text tables (given_query due next rows)) ∙ given-text tables due next rows)
+    ∙ ap (λ (z : List ℕ). body ++ z) (sym (append_assoc (codes " UNION ALL ") (block_text tables (given_block due next)) (flat_map (given_behind tables due) rows)))
 
 pub given-onto : (tables : List Table) (due : List CellType) (row : List Cell) (rows : List (List Cell)) (out middle : List ℕ) → middle ≡ out ++ block_text tables (given_block due row)
     → middle ++ flat_map (given_behind tables due) rows ≡ out ++ query_text tables (given_query due row rows)
@@ -109,17 +99,17 @@ pub scan-where : (tables : List Table) (table : ℕ) (items : s.Items) (c : s.Te
     → third ≡ second ++ concat (codes " FROM " ∷ name ∷ codes "_versions" ∷ codes " WHERE " ∷ []) → name ≡ table_name tables table
     → third ++ test_text tables c ≡ out ++ block_text tables (s.select items (from s.no_alias (s.versions table)) (s.passing c))
 scan-where tables table items c out first second third name one two three is =
-    let own : List ℕ = table_name tables table in
+    let written : List ℕ = table_name tables table in
     let words : List ℕ → List ℕ = λ name. concat (codes " FROM " ∷ name ∷ codes "_versions" ∷ codes " WHERE " ∷ []) in
     let item : List ℕ = items_text tables items in
     let test : List ℕ = test_text tables c in
     ap (λ (z : List ℕ). z ++ test) (three ∙ (λ i. (two ∙ ap (λ (z : List ℕ). z ++ item) one) i ++ words (is i)))
-    ∙ append_assoc ((out ++ codes "SELECT ") ++ item) (words own) test
-    ∙ append_assoc (out ++ codes "SELECT ") item (words own ++ test)
-    ∙ append_assoc out (codes "SELECT ") (item ++ (words own ++ test))
+    ∙ append_assoc ((out ++ codes "SELECT ") ++ item) (words written) test
+    ∙ append_assoc (out ++ codes "SELECT ") item (words written ++ test)
+    ∙ append_assoc out (codes "SELECT ") (item ++ (words written ++ test))
     ∙ ap (λ (z : List ℕ). out ++ (codes "SELECT " ++ (item ++ z)))
-    (concat-onto (codes " FROM " ∷ own ∷ codes "_versions" ∷ codes " WHERE " ∷ []) test
-    ∙ ap (λ (z : List ℕ). codes " FROM " ++ z) (sym (append_assoc own (codes "_versions" ++ []) (codes " WHERE " ++ test)))
+    (concat-onto (codes " FROM " ∷ written ∷ codes "_versions" ∷ codes " WHERE " ∷ []) test
+    ∙ ap (λ (z : List ℕ). codes " FROM " ++ z) (sym (append_assoc written (codes "_versions" ++ []) (codes " WHERE " ++ test)))
     ∙ sym (behind-items (source_text tables (s.versions table)) [] test))
 
 -- ---- queries
@@ -143,72 +133,30 @@ module _ (tables : List Table) (steps : StepTypes) where
   numbered in_publish due query n m found before later same is =
       subst (λ (k : ℕ). WritesOperand tables (operand in_publish query (translated tables steps due query k)) found before later) same is
 
-  pub filter-writes : (due types : List CellType) (query : Plain) (c : Cond) (n : ℕ) (found : Found) (before later own more : List ℕ)
-      → WritesOperand tables (operand false query (translated tables steps due query n)) found before later → types ≡ types_of tables steps query
-      → more ≡ own ++ block_text tables (s.select s.all (from s.no_alias (source_of found.source)) (s.passing (cond_test types c)))
-      → Writes tables (translated tables steps due (p.select query c) n) found.next before later own more
-  filter-writes due types query c n found before later own more is known text = record {
-    number = is.number;
-    named = is.named;
-    text = text ∙ (λ i. own ++ block_text tables (s.select s.all (from s.no_alias (is.source i)) (s.passing (cond_test (known i) c))));
-  }
-
-  pub project-writes : (due types : List CellType) (query : Plain) (exprs : List Expr) (n : ℕ) (found : Found) (before later own more : List ℕ)
-      → WritesOperand tables (operand false query (translated tables steps types query n)) found before later → types ≡ types_of tables steps query
-      → more ≡ own ++ block_text tables (s.select (s.named (exprs_terms types due exprs)) (from s.no_alias (source_of found.source)) s.everywhere)
-      → Writes tables (translated tables steps due (p.project query exprs) n) found.next before later own more
-  project-writes due types query exprs n found before later own more is known text =
-      let so = subst (λ (types : List CellType). WritesOperand tables (operand false query (translated tables steps types query n)) found before later) known is in
-      record {
-        number = so.number;
-        named = so.named;
-        text = text ∙ (λ i. own ++ block_text tables (s.select (s.named (exprs_terms (known i) due exprs)) (from s.no_alias (so.source i)) s.everywhere));
-      }
-
-  pub product-writes : (due types others first second : List CellType) (left right : Plain) (n : ℕ) (found next : Found) (before middle later own more : List ℕ)
-      → types ≡ types_of tables steps left → others ≡ types_of tables steps right → first ≡ take (length types) due → second ≡ drop (length types) due
-      → WritesOperand tables (operand false left (translated tables steps first left n)) found before middle
-      → WritesOperand tables (operand false right (translated tables steps second right found.next)) next middle later
-      → more ≡ own ++ block_text tables (crossed (length types) (length others) (source_of found.source) (source_of next.source))
-      → Writes tables (translated tables steps due (p.product left right) n) next.next before later own more
-  product-writes due types others first second left right n found next before middle later own more known also front back is so text =
-      let width : ℕ = length (types_of tables steps left) in
-      let ahead : first ≡ take width due = front ∙ ap (λ (types : List CellType). take (length types) due) known in
-      let behind : second ≡ drop width due = back ∙ ap (λ (types : List CellType). drop (length types) due) known in
-      let one = subst (λ (due : List CellType). WritesOperand tables (operand false left (translated tables steps due left n)) found before middle) ahead is in
-      let a = operand false left (translated tables steps (take width due) left n) in
-      let two = numbered false (drop width due) right found.next a.next next middle later one.number
-      (subst (λ (due : List CellType). WritesOperand tables (operand false right (translated tables steps due right found.next)) next middle later) behind so) in
-      record {
-        number = two.number;
-        named = written-behind tables before middle later a.before (operand false right (translated tables steps (drop width due) right a.next)).before one.named two.named;
-        text = text ∙ (λ i. own ++ block_text tables (crossed (length (known i)) (length (also i)) (one.source i) (two.source i)));
-      }
-
-  pub union-writes : (due : List CellType) (left right : Plain) (n : ℕ) (found next : Found) (before middle later own more : List ℕ)
+  pub union-writes : (due : List CellType) (left right : Plain) (n : ℕ) (found next : Found) (before middle later body more : List ℕ)
       → WritesOperand tables (operand false left (translated tables steps due left n)) found before middle
       → WritesOperand tables (operand false right (translated tables steps due right found.next)) next middle later
-      → more ≡ own ++ query_text tables (s.union_all (all_of (source_of found.source)) (s.block (all_of (source_of next.source))))
-      → Writes tables (translated tables steps due (p.union left right) n) next.next before later own more
-  union-writes due left right n found next before middle later own more one so text =
+      → more ≡ body ++ query_text tables (s.union_all (all_of (source_of found.source)) (s.block (all_of (source_of next.source))))
+      → Writes tables (translated tables steps due (p.union left right) n) next.next before later body more
+  union-writes due left right n found next before middle later body more one so text =
       let a = operand false left (translated tables steps due left n) in
       let two = numbered false due right found.next a.next next middle later one.number so in
       record {
         number = two.number;
         named = written-behind tables before middle later a.before (operand false right (translated tables steps due right a.next)).before one.named two.named;
-        text = text ∙ (λ i. own ++ query_text tables (s.union_all (all_of (one.source i)) (s.block (all_of (two.source i)))));
+        text = text ∙ (λ i. body ++ query_text tables (s.union_all (all_of (one.source i)) (s.block (all_of (two.source i)))));
       }
 
-  pub publish-writes : (due types : List CellType) (at : ℕ) (base mine later : Plain) (n last : ℕ) (found next third : Found) (t0 t1 t2 t3 t4 own more : List ℕ)
+  pub publish-writes : (due types : List CellType) (at : ℕ) (base mine later : Plain) (n last : ℕ) (found next third : Found) (t0 t1 t2 t3 t4 body more : List ℕ)
       → types ≡ types_of tables steps base
       → WritesOperand tables (operand true base (translated tables steps types base n)) found t0 t1
       → WritesOperand tables (operand true mine (translated tables steps due mine found.next)) next t1 t2
       → WritesOperand tables (operand true later (translated tables steps due later next.next)) third t2 t3
       → last ≡ suc third.next
       → t4 ≡ t3 ++ other_expression tables (record { name = s.query third.next; materialized = true; query = written_query at (source_of found.source) (source_of next.source) })
-      → more ≡ own ++ query_text tables (published_query at (s.query third.next) (source_of next.source) (source_of third.source))
-      → Writes tables (translated tables steps due (p.publish at base mine later) n) last t0 t4 own more
-  publish-writes due types at base mine later n last found next third t0 t1 t2 t3 t4 own more known is so and number named text =
+      → more ≡ body ++ query_text tables (published_query at (s.query third.next) (source_of next.source) (source_of third.source))
+      → Writes tables (translated tables steps due (p.publish at base mine later) n) last t0 t4 body more
+  publish-writes due types at base mine later n last found next third t0 t1 t2 t3 t4 body more known is so and number named text =
       let a = operand true base (translated tables steps (types_of tables steps base) base n) in
       let one = subst (λ (types : List CellType). WritesOperand tables (operand true base (translated tables steps types base n)) found t0 t1) known is in
       let b = operand true mine (translated tables steps due mine a.next) in
@@ -227,46 +175,21 @@ module _ (tables : List Table) (steps : StepTypes) where
             written-behind tables t0 t1 t4 a.before (b.before ++ (c.before ++ w ∷ [])) one.named
             (written-behind tables t1 t2 t4 b.before (c.before ++ w ∷ []) two.named
             (written-behind tables t2 t3 t4 c.before (w ∷ []) three.named four));
-        text = text ∙ (λ i. own ++ query_text tables (published_query at (s.query (three.number i)) (two.source i) (three.source i)));
+        text = text ∙ (λ i. body ++ query_text tables (published_query at (s.query (three.number i)) (two.source i) (three.source i)));
       }
 
   -- ---- operands
 
-  pub step-operand : (in_publish : Bool) (due : List CellType) (query : Plain) (j n : ℕ) (found : Found) (before : List ℕ) → step_number query ≡ Some j → source_of found.source ≡ s.step j → found.next ≡ n
-      → WritesOperand tables (operand in_publish query (translated tables steps due query n)) found before before
-  step-operand in_publish due (p.step k) j n found before is named next = record {
-    number = next;
-    source = named ∙ ap s.step (sym (same_Some k j is));
-    named = sym (append-nil before);
-  }
-  step-operand in_publish due (p.scan table version) j n found before is named next = absurd cc
-  step-operand in_publish due (p.select query c) j n found before is named next = absurd cc
-  step-operand in_publish due (p.project query exprs) j n found before is named next = absurd cc
-  step-operand in_publish due (p.product left right) j n found before is named next = absurd cc
-  step-operand in_publish due (p.union left right) j n found before is named next = absurd cc
-  step-operand in_publish due (p.given rows) j n found before is named next = absurd cc
-  step-operand in_publish due (p.publish at base mine later) j n found before is named next = absurd cc
-
-  pub operand-is : (in_publish : Bool) (query : Plain) (own : Translated) → step_number query ≡ None → operand in_publish query own ≡ numbered_operand in_publish query own
-  operand-is in_publish (p.step k) own is = absurd cc
-  operand-is in_publish (p.scan table version) own is = refl
-  operand-is in_publish (p.select query c) own is = refl
-  operand-is in_publish (p.project query exprs) own is = refl
-  operand-is in_publish (p.product left right) own is = refl
-  operand-is in_publish (p.union left right) own is = refl
-  operand-is in_publish (p.given rows) own is = refl
-  operand-is in_publish (p.publish at base mine later) own is = refl
-
-  pub numbered-writes : (in_publish materialized : Bool) (due : List CellType) (query : Plain) (n next : ℕ) (found : Found) (before middle later start own text : List ℕ)
-      → Writes tables (translated tables steps due query n) next before middle start own → start ≡ []
+  pub numbered-writes : (in_publish materialized : Bool) (due : List CellType) (query : Plain) (n next : ℕ) (found : Found) (before middle later start body text : List ℕ)
+      → Writes tables (translated tables steps due query n) next before middle start body → start ≡ []
       → later ≡ middle ++ concat (codes "," ∷ newline ∷ source_text tables (s.query next) ∷ codes " AS " ∷ materialized_text materialized ∷ codes "(" ∷ text ∷ codes ")" ∷ [])
-      → materialized ≡ (in_publish || is_projection query) → text ≡ own
+      → materialized ≡ (in_publish || is_projection query) → text ≡ body
       → source_of found.source ≡ s.query next → found.next ≡ suc next
       → WritesOperand tables (numbered_operand in_publish query (translated tables steps due query n)) found before later
-  numbered-writes in_publish materialized due query n next found before middle later start own text writes none named is same source number =
+  numbered-writes in_publish materialized due query n next found before middle later start body text writes none named is same source number =
       let a = translated tables steps due query n in
       let w : NamedQuery = record { name = s.query a.next; materialized = in_publish || is_projection query; query = a.query } in
-      let behind : ℕ → Bool → List ℕ → List ℕ = λ k m own. concat (codes "," ∷ newline ∷ source_text tables (s.query k) ∷ codes " AS " ∷ materialized_text m ∷ codes "(" ∷ own ∷ codes ")" ∷ []) in
+      let behind : ℕ → Bool → List ℕ → List ℕ = λ k m body. concat (codes "," ∷ newline ∷ source_text tables (s.query k) ∷ codes " AS " ∷ materialized_text m ∷ codes "(" ∷ body ∷ codes ")" ∷ []) in
       let whole : text ≡ query_text tables a.query = same ∙ writes.text ∙ ap (λ (z : List ℕ). z ++ query_text tables a.query) none in
       record {
         number = number ∙ ap (λ (k : ℕ). suc k) writes.number;
@@ -290,10 +213,10 @@ after-more (y ∷ known) x types = after-more known x (with_types y.j y.types ty
 pub expressions-same : (tables : List Table) (queries : List NamedQuery) → expressions_of (flat_map (other_expression tables) queries) ≡ expressions_text tables queries
 expressions-same tables [] = refl
 expressions-same tables (first ∷ others) =
-    let own : List ℕ = expression_text tables first in
+    let body : List ℕ = expression_text tables first in
     let rest : List ℕ = flat_map (other_expression tables) others in
-    ap (λ (z : List ℕ). codes "WITH " ++ ((z ++ rest) ++ (newline ++ []))) (append-nil own)
-    ∙ ap (λ (z : List ℕ). codes "WITH " ++ z) (append_assoc own rest (newline ++ []))
+    ap (λ (z : List ℕ). codes "WITH " ++ ((z ++ rest) ++ (newline ++ []))) (append-nil body)
+    ∙ ap (λ (z : List ℕ). codes "WITH " ++ z) (append_assoc body rest (newline ++ []))
 
 -- ---- PRODUCT and SCAN
 
@@ -309,7 +232,7 @@ crossed-writes tables width other n out middle later first number second =
 
 -- the columns of a table, if it is there
 stored-text : (tables : List Table) (place : ℕ) (table : Option Table) → slice_get tables place ≡ table
-    → named_text tables 1 (stored_terms place 0 (option_map_or (λ (table : Table). length table.cols) table 0)) ≡ stored_text 0 (option_map_or (λ (own : Table). own.cols) table [])
+    → named_text tables 1 (stored_terms place 0 (option_map_or (λ (table : Table). length table.cols) table 0)) ≡ stored_text 0 (option_map_or (λ (body : Table). body.cols) table [])
 stored-text tables place None is = sym (stored-none tables place)
 stored-text tables place (Some table) is = sym (stored-items tables place table is 0 table.cols refl)
 
@@ -318,12 +241,12 @@ scanned-items tables place = stored-text tables place (slice_get tables place) r
 
 -- ---- steps
 
-pub step-writes : (tables : List Table) (types : StepTypes) (due : List CellType) (step : PlainStep) (n next : ℕ) (before middle later start own text : List ℕ) → due ≡ types_of tables types step.query
-    → Writes tables (translated tables types due step.query n) next before middle start own → start ≡ []
+pub step-writes : (tables : List Table) (types : StepTypes) (due : List CellType) (step : PlainStep) (n next : ℕ) (before middle later start body text : List ℕ) → due ≡ types_of tables types step.query
+    → Writes tables (translated tables types due step.query n) next before middle start body → start ≡ []
     → later ≡ middle ++ concat (codes "," ∷ newline ∷ source_text tables (s.step step.j) ∷ codes " AS " ∷ materialized_text true ∷ codes "(" ∷ text ∷ codes ")" ∷ [])
-    → text ≡ own → WritesStep tables types step n next before later
-step-writes tables types due step n next before middle later start own text known writes none named same =
-    let is = subst (λ (due : List CellType). Writes tables (translated tables types due step.query n) next before middle start own) known writes in
+    → text ≡ body → WritesStep tables types step n next before later
+step-writes tables types due step n next before middle later start body text known writes none named same =
+    let is = subst (λ (due : List CellType). Writes tables (translated tables types due step.query n) next before middle start body) known writes in
     let a = translated tables types (types_of tables types step.query) step.query n in
     let w : NamedQuery = record { name = s.step step.j; materialized = true; query = a.query } in
     let whole : text ≡ query_text tables a.query = same ∙ is.text ∙ ap (λ (z : List ℕ). z ++ query_text tables a.query) none in
@@ -332,7 +255,7 @@ step-writes tables types due step n next before middle later start own text know
       named =
           written-behind tables before middle later a.before (w ∷ []) is.named
           (named
-          ∙ ap (λ (own : List ℕ). middle ++ concat (codes "," ∷ newline ∷ source_text tables (s.step step.j) ∷ codes " AS " ∷ materialized_text true ∷ codes "(" ∷ own ∷ codes ")" ∷ [])) whole
+          ∙ ap (λ (body : List ℕ). middle ++ concat (codes "," ∷ newline ∷ source_text tables (s.step step.j) ∷ codes " AS " ∷ materialized_text true ∷ codes "(" ∷ body ∷ codes ")" ∷ [])) whole
           ∙ ap (λ (z : List ℕ). middle ++ z)
           (ap (λ (z : List ℕ). codes "," ++ (newline ++ z)) (sym (append-nil (expression_text tables w)))
           ∙ sym (append-nil (other_expression tables w))));
@@ -358,24 +281,24 @@ module _ (tables : List Table) (types later : StepTypes) (step : PlainStep) (res
       → before ++ others_text tables (translated_steps tables types (step ∷ rest) n).before ≡ all
       → after ++ others_text tables (translated_steps tables later rest next).before ≡ all
   named-kept n next before after all number text is =
-      let own = translated tables types (types_of tables types step.query) step.query n in
-      let w : NamedQuery = record { name = s.step step.j; materialized = true; query = own.query } in
-      let behind = (translated_steps tables (with_types step.j (query_types tables types step.query) types) rest own.next).before in
+      let body = translated tables types (types_of tables types step.query) step.query n in
+      let w : NamedQuery = record { name = s.step step.j; materialized = true; query = body.query } in
+      let behind = (translated_steps tables (with_types step.j (query_types tables types step.query) types) rest body.next).before in
       (λ i. text i ++ others_text tables (translated_steps tables (same i) rest (number i)).before)
-      ∙ append_assoc before (others_text tables (own.before ++ w ∷ [])) (others_text tables behind)
-      ∙ ap (λ (z : List ℕ). before ++ z) (sym (one-by-one tables own.before w behind))
+      ∙ append_assoc before (others_text tables (body.before ++ w ∷ [])) (others_text tables behind)
+      ∙ ap (λ (z : List ℕ). before ++ z) (sym (one-by-one tables body.before w behind))
       ∙ is
 
 -- the whole text
-pub whole-text : (tables : List Table) (steps : List PlainStep) (last : Plain) (known : List StepType) (due : List CellType) (n next : ℕ) (before later own : List ℕ)
+pub whole-text : (tables : List Table) (steps : List PlainStep) (last : Plain) (known : List StepType) (due : List CellType) (n next : ℕ) (before later body : List ℕ)
     → WritesSteps tables steps known n [] before → due ≡ types_of tables (types_after known no_types) last
-    → Writes tables (translated tables (types_after known no_types) due last n) next before later [] own
-    → assembled later own ≡ with_text tables (program_query tables (record { steps = steps; last = last }))
-whole-text tables steps last known due n next before later own writes known-due own-writes =
+    → Writes tables (translated tables (types_after known no_types) due last n) next before later [] body
+    → assembled later body ≡ with_text tables (program_query tables (record { steps = steps; last = last }))
+whole-text tables steps last known due n next before later body writes known-due own-writes =
     let first = translated_steps tables no_types steps 1 in
-    let is = subst (λ (due : List CellType). Writes tables (translated tables (types_after known no_types) due last n) next before later [] own) known-due own-writes in
-    let so = subst (λ (types : StepTypes). Writes tables (translated tables types (types_of tables types last) last n) next before later [] own) writes.types is in
-    let end = subst (λ (n : ℕ). Writes tables (translated tables (steps_types tables steps no_types) (types_of tables (steps_types tables steps no_types) last) last n) next before later [] own) writes.number so in
+    let is = subst (λ (due : List CellType). Writes tables (translated tables (types_after known no_types) due last n) next before later [] body) known-due own-writes in
+    let so = subst (λ (types : StepTypes). Writes tables (translated tables types (types_of tables types last) last n) next before later [] body) writes.types is in
+    let end = subst (λ (n : ℕ). Writes tables (translated tables (steps_types tables steps no_types) (types_of tables (steps_types tables steps no_types) last) last n) next before later [] body) writes.number so in
     let own-text = translated tables (steps_types tables steps no_types) (types_of tables (steps_types tables steps no_types) last) last first.next in
     let all : later ≡ others_text tables (first.before ++ own-text.before) = written-behind tables [] before later first.before own-text.before writes.named end.named in
     (λ i. assembled (all i) (end.text i))

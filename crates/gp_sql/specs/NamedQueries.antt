@@ -99,11 +99,11 @@ is_projection _ = false
 
 -- a query that another one reads; a step has its name
 abbrev pub operand : Bool → Plain → Translated → Operand
-operand in_publish (p.step j) own = record { before = []; source = s.step j; next = own.next }
-operand in_publish plain own = record {
-  before = own.before ++ record { name = s.query own.next; materialized = in_publish || is_projection plain; query = own.query } ∷ [];
-  source = s.query own.next;
-  next = suc own.next;
+operand in_publish (p.step j) translation = record { before = []; source = s.step j; next = translation.next }
+operand in_publish plain translation = record {
+  before = translation.before ++ record { name = s.query translation.next; materialized = in_publish || is_projection plain; query = translation.query } ∷ [];
+  source = s.query translation.next;
+  next = suc translation.next;
 }
 
 abbrev pub known_types : Option (List CellType) → List CellType
@@ -154,13 +154,13 @@ pub record TranslatedSteps : Type 0 where
 abbrev pub translated_steps : List Table → StepTypes → List PlainStep → ℕ → TranslatedSteps
 translated_steps tables types [] n = record { before = []; next = n }
 translated_steps tables types (first ∷ others) n =
-    let own = translated tables types (types_of tables types first.query) first.query n in
-    let rest = translated_steps tables (with_types first.j (query_types tables types first.query) types) others own.next in
-    record { before = own.before ++ record { name = s.step first.j; materialized = true; query = own.query } ∷ rest.before; next = rest.next }
+    let translation = translated tables types (types_of tables types first.query) first.query n in
+    let rest = translated_steps tables (with_types first.j (query_types tables types first.query) types) others translation.next in
+    record { before = translation.before ++ record { name = s.step first.j; materialized = true; query = translation.query } ∷ rest.before; next = rest.next }
 
 abbrev pub program_query : List Table → PlainProgram → With
 program_query tables program =
     let steps = translated_steps tables no_types program.steps 1 in
     let types = steps_types tables program.steps no_types in
-    let own = translated tables types (types_of tables types program.last) program.last steps.next in
-    record { queries = steps.before ++ own.before; last = own.query }
+    let translation = translated tables types (types_of tables types program.last) program.last steps.next in
+    record { queries = steps.before ++ translation.before; last = translation.query }

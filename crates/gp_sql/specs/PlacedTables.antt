@@ -6,7 +6,7 @@ use Rattle.gp_versions.specs.Spans.{Versions}
 use Rattle.gp_sql.specs.TableTexts.{table_text}
 
 abbrev pub span_lists : List Versions → List (List Span)
-span_lists versions = map (λ (own : Versions). own.spans) versions
+span_lists versions = map (λ (table : Versions). table.spans) versions
 
 abbrev pub text_of_both : Option Table → Option (List Span) → List ℕ
 text_of_both None spans = []

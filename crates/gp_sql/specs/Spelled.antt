@@ -17,7 +17,7 @@ AreDifferent names = AllPairs (λ (name other : List ℕ). name ≢ other) names
 
 -- no two tables have the same name, and no two columns of a table
 abbrev pub HaveOwnNames : List Table → Type 0
-HaveOwnNames tables = AreDifferent (table_names tables) × AllByRecursion (λ (own : Table). AreDifferent (map (λ (column : table.Column). column.name) own.cols)) tables
+HaveOwnNames tables = AreDifferent (table_names tables) × AllByRecursion (λ (stored : Table). AreDifferent (map (λ (column : table.Column). column.name) stored.cols)) tables
 
 abbrev pub table_of : Source → Option ℕ
 table_of (s.versions table) = Some table
@@ -30,7 +30,7 @@ only_table _ = None
 
 abbrev pub is_table : Option ℕ → ℕ → Bool
 is_table None table = false
-is_table (Some own) table = own == table
+is_table (Some only) table = only == table
 
 -- what needs no bracket behind NOT, beside OR and before IS TRUE
 abbrev pub is_unit : Test → Bool
@@ -53,28 +53,28 @@ module _ (tables : List Table) where
 
   -- where the columns of this table, or of none, may stand
   abbrev pub column_is_spelled : Option ℕ → Column → Bool
-  column_is_spelled own (s.stored table n) = is_table own table && is_name (column_name (slice_get tables table) n)
-  column_is_spelled own (s.numbered n) = fits_number (pos n)
-  column_is_spelled own _ = true
+  column_is_spelled only (s.stored table n) = is_table only table && is_name (column_name (slice_get tables table) n)
+  column_is_spelled only (s.numbered n) = fits_number (pos n)
+  column_is_spelled only _ = true
 
   abbrev mutual
     pub term_is_spelled : Option ℕ → Term → Bool
-    term_is_spelled own (s.column alias c) = column_is_spelled own c
-    term_is_spelled own (s.null type) = true
-    term_is_spelled own (s.number z) = fits_number z
-    term_is_spelled own (s.cast_number z) = fits_number z
-    term_is_spelled own (s.text text) = true
-    term_is_spelled own (s.plus a b) = term_is_spelled None a && term_is_spelled None b
-    term_is_spelled own (s.minus a b) = term_is_spelled None a && term_is_spelled None b
-    term_is_spelled own (s.times a b) = term_is_spelled None a && term_is_spelled None b
-    term_is_spelled own (s.negative a) = term_is_spelled None a
-    term_is_spelled own (s.joined (s.term a (s.term b others))) = term_is_spelled None a && (term_is_spelled None b && terms_are_spelled None others)
-    term_is_spelled own (s.joined _) = false
-    term_is_spelled own (s.case c a b) = test_is_spelled c && (term_is_spelled None a && term_is_spelled None b)
+    term_is_spelled only (s.column alias c) = column_is_spelled only c
+    term_is_spelled only (s.null type) = true
+    term_is_spelled only (s.number z) = fits_number z
+    term_is_spelled only (s.cast_number z) = fits_number z
+    term_is_spelled only (s.text text) = true
+    term_is_spelled only (s.plus a b) = term_is_spelled None a && term_is_spelled None b
+    term_is_spelled only (s.minus a b) = term_is_spelled None a && term_is_spelled None b
+    term_is_spelled only (s.times a b) = term_is_spelled None a && term_is_spelled None b
+    term_is_spelled only (s.negative a) = term_is_spelled None a
+    term_is_spelled only (s.joined (s.term a (s.term b others))) = term_is_spelled None a && (term_is_spelled None b && terms_are_spelled None others)
+    term_is_spelled only (s.joined _) = false
+    term_is_spelled only (s.case c a b) = test_is_spelled c && (term_is_spelled None a && term_is_spelled None b)
 
     pub terms_are_spelled : Option ℕ → Terms → Bool
-    terms_are_spelled own s.no_terms = true
-    terms_are_spelled own (s.term a others) = term_is_spelled own a && terms_are_spelled own others
+    terms_are_spelled only s.no_terms = true
+    terms_are_spelled only (s.term a others) = term_is_spelled only a && terms_are_spelled only others
 
     pub test_is_spelled : Test → Bool
     test_is_spelled (s.compare cmp a b) = term_is_spelled None a && term_is_spelled None b
@@ -87,10 +87,10 @@ module _ (tables : List Table) where
     test_is_spelled (s.bracket c) = test_is_spelled c
 
     pub items_are_spelled : Option ℕ → Items → Bool
-    items_are_spelled own s.all = true
-    items_are_spelled own (s.named s.no_terms) = false
-    items_are_spelled own (s.named (s.term a others)) = term_is_spelled own a && terms_are_spelled own others
-    items_are_spelled own (s.single a) = term_is_spelled None a
+    items_are_spelled only s.all = true
+    items_are_spelled only (s.named s.no_terms) = false
+    items_are_spelled only (s.named (s.term a others)) = term_is_spelled only a && terms_are_spelled only others
+    items_are_spelled only (s.single a) = term_is_spelled None a
 
     pub where_is_spelled : Where → Bool
     where_is_spelled s.everywhere = true

@@ -64,4 +64,4 @@ table_text table spans = create_text table ++ insert_text table 0 spans
 
 -- the tables of a catalogue, each with its row versions
 abbrev pub tables_text : List Table → List (List Span) → List ℕ
-tables_text tables lists = flat_map (λ (own : Table × List Span). table_text own.0 own.1) (zip tables lists)
+tables_text tables lists = flat_map (λ (pair : Table × List Span). table_text pair.0 pair.1) (zip tables lists)

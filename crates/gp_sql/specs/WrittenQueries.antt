@@ -25,10 +25,10 @@ source_of (Step j) = s.step j
 source_of (Query n) = s.query n
 
 -- the named queries that a query reads are appended to one text, and its own query to another one
-pub record Writes (tables : List Table) (a : Translated) (next : ℕ) (before later own more : List ℕ) : Type 0 where
+pub record Writes (tables : List Table) (a : Translated) (next : ℕ) (before later body more : List ℕ) : Type 0 where
   pub number : next ≡ a.next
   pub named : later ≡ before ++ flat_map (other_expression tables) a.before
-  pub text : more ≡ own ++ query_text tables a.query
+  pub text : more ≡ body ++ query_text tables a.query
 
 pub record WritesOperand (tables : List Table) (a : Operand) (found : Found) (before later : List ℕ) : Type 0 where
   pub number : found.next ≡ a.next
@@ -54,16 +54,16 @@ expressions_of (a ∷ b ∷ lines) = concat (codes "WITH " ∷ lines ∷ newline
 expressions_of _ = []
 
 abbrev pub assembled : List ℕ → List ℕ → List ℕ
-assembled before own = concat (expressions_of before ∷ own ∷ codes ";" ∷ newline ∷ [])
+assembled before body = concat (expressions_of before ∷ body ∷ codes ";" ∷ newline ∷ [])
 
 -- ---- parts
 
 -- what stands for a query that is no step
 abbrev pub numbered_operand : Bool → Plain → Translated → Operand
-numbered_operand in_publish query own = record {
-  before = own.before ++ record { name = s.query own.next; materialized = in_publish || is_projection query; query = own.query } ∷ [];
-  source = s.query own.next;
-  next = suc own.next;
+numbered_operand in_publish query translation = record {
+  before = translation.before ++ record { name = s.query translation.next; materialized = in_publish || is_projection query; query = translation.query } ∷ [];
+  source = s.query translation.next;
+  next = suc translation.next;
 }
 
 abbrev pub step_number : Plain → Option ℕ
@@ -74,7 +74,7 @@ abbrev pub table_name : List Table → ℕ → List ℕ
 table_name tables place = get_or (table_names tables) place []
 
 abbrev pub columns_at : List Table → ℕ → List Column
-columns_at tables table = option_map_or (λ (own : Table). own.cols) (slice_get tables table) []
+columns_at tables table = option_map_or (λ (found : Table). found.cols) (slice_get tables table) []
 
 -- a row of VALUES behind another one
 abbrev pub given_behind : List Table → List CellType → List Cell → List ℕ

@@ -19,10 +19,7 @@ use std::alloc::Global;
 pub(crate) fn next(n: u64) -> Result<u64, NoMemory>
     ensures { IfOk result (λ next. next ≡ suc n) }
 {
-    match n.checked_add(1) {
-        Some(next) => Ok(next),
-        None => Err(NoMemory),
-    }
+    n.checked_add(1).ok_or(NoMemory)
 }
 
 /// Appends what stands before an item behind so many others.
@@ -46,14 +43,10 @@ fn push_name(alloc: Global, n: u64, out: &mut Vec<u8>) -> Result<u64, NoMemory>
     Ok(next)
 }
 
-/// The type that is due at this place.
 fn due_at(due: &[CellType], place: usize) -> CellType
     ensures { result ≡ t.first_due (drop place due.now) }
 {
-    match due.get(place) {
-        Some(type_of) => *type_of,
-        None => CellType::Null,
-    }
+    due.get(place).copied().unwrap_or(CellType::Null)
 }
 
 /// Appends an expression behind so many other items.

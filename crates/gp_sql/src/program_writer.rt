@@ -30,7 +30,7 @@ fn push_step(
         (step_view step.now) n next before.old.items before.new.items) }
 {
     let due = types_or_none(alloc, catalog, known, &step.query)?;
-    let mut own = Vec::new(alloc);
+    let mut body = Vec::new(alloc);
     let n = push_query(
         alloc,
         catalog,
@@ -39,9 +39,9 @@ fn push_step(
         &step.query,
         n,
         before,
-        &mut own,
+        &mut body,
     )?;
-    push_named(alloc, catalog, Name::Step(step.j), true, &own, before)?;
+    push_named(alloc, catalog, Name::Step(step.j), true, &body, before)?;
     Ok(n)
 }
 
@@ -86,14 +86,14 @@ fn push_steps(
 }
 
 /// The lines of common table expressions, each of which stands behind a comma and a line feed, and the query behind them.
-fn assembled(alloc: Global, before: &[u8], own: &[u8]) -> Result<Vec<u8>, NoMemory>
-    ensures { IfOk result (λ text. text.items ≡ q.assembled before.now own.now) }
+fn assembled(alloc: Global, before: &[u8], body: &[u8]) -> Result<Vec<u8>, NoMemory>
+    ensures { IfOk result (λ text. text.items ≡ q.assembled before.now body.now) }
 {
     let mut out = Vec::new(alloc);
     if let [_, _, lines @ ..] = before {
         append_all(&mut out, &[b"WITH ", lines, b"\n"])?;
     }
-    append_all(&mut out, &[own, b";", b"\n"])?;
+    append_all(&mut out, &[body, b";", b"\n"])?;
     Ok(out)
 }
 
@@ -117,7 +117,7 @@ pub fn write_query(
         &mut before,
     )?;
     let due = types_or_none(alloc, catalog, known.as_slice(), &program.last)?;
-    let mut own = Vec::new(alloc);
+    let mut body = Vec::new(alloc);
     let due = due.as_slice();
     push_query(
         alloc,
@@ -127,7 +127,7 @@ pub fn write_query(
         &program.last,
         n,
         &mut before,
-        &mut own,
+        &mut body,
     )?;
-    assembled(alloc, &before, &own)
+    assembled(alloc, &before, &body)
 }

@@ -54,7 +54,6 @@ fn step_or_found(
     }
 }
 
-/// The types of the step of this number.
 fn step_types(alloc: Global, steps: &[StepType], j: u32) -> Result<Option<Types>, NoMemory>
     ensures { IfOk result (λ types. types ≡ types_after steps.now t.no_types j) }
 {
@@ -104,16 +103,8 @@ fn scan_types(alloc: Global, catalog: &Catalog, table: u32) -> Result<Option<Typ
 fn selected_types(types: Option<Types>, cond: &Cond) -> Option<Types>
     ensures { result ≡ t.selected_types (cond_view cond.now) types }
 {
-    match types {
-        Some(types) => {
-            if cond_is_typed(types.as_slice(), cond) {
-                Some(types)
-            } else {
-                None
-            }
-        }
-        None => None,
-    }
+    let types = types?;
+    cond_is_typed(types.as_slice(), cond).then_some(types)
 }
 
 /// The types of expressions.
@@ -148,16 +139,11 @@ fn projected_types(
 fn product_types(left: Option<Types>, right: Option<Types>) -> Result<Option<Types>, NoMemory>
     ensures { IfOk result (λ types. types ≡ t.product_types left right) }
 {
-    match left {
-        Some(mut types) => match right {
-            Some(others) => {
-                types.append(others)?;
-                Ok(Some(types))
-            }
-            None => Ok(None),
-        },
-        None => Ok(None),
-    }
+    let (Some(mut types), Some(others)) = (left, right) else {
+        return Ok(None);
+    };
+    types.append(others)?;
+    Ok(Some(types))
 }
 
 /// The types of both, column by column.
@@ -189,16 +175,12 @@ fn both_types(
 ) -> Result<Option<Types>, NoMemory>
     ensures { IfOk result (λ types. types ≡ t.both_types left.now right.now) }
 {
-    match left {
-        Some(types) => match right {
-            Some(others) => common_types(alloc, types.as_slice(), others.as_slice()),
-            None => Ok(None),
-        },
-        None => Ok(None),
+    match (left, right) {
+        (Some(types), Some(others)) => common_types(alloc, types.as_slice(), others.as_slice()),
+        _ => Ok(None),
     }
 }
 
-/// The types of the cells of a row.
 fn row_types(alloc: Global, cells: &[Cell]) -> Result<Option<Types>, NoMemory>
     ensures { IfOk result (λ found. found ≡ t.row_types cells.now) }
 {
@@ -216,8 +198,8 @@ fn row_types(alloc: Global, cells: &[Cell]) -> Result<Option<Types>, NoMemory>
 fn row_before(alloc: Global, row: &Row, types: &Option<Types>) -> Result<Option<Types>, NoMemory>
     ensures { IfOk result (λ found. found ≡ t.both_types (t.row_types row.now) types.now) }
 {
-    let own = row_types(alloc, row.cells())?;
-    both_types(alloc, &own, types)
+    let of_row = row_types(alloc, row.cells())?;
+    both_types(alloc, &of_row, types)
 }
 
 /// The types of given rows. The last row comes first, since each row is met with those behind it.
@@ -236,17 +218,10 @@ fn given_types(alloc: Global, rows: &[Row]) -> Result<Option<Types>, NoMemory>
     Ok(found)
 }
 
-/// Whether this is the type of a mark.
 fn is_mark(a: Option<CellType>) -> bool
     ensures { result ≡ t.is_mark a }
 {
-    match a {
-        Some(a) => match a {
-            CellType::Mark => true,
-            CellType::Null | CellType::Int | CellType::Text | CellType::Id => false,
-        },
-        None => false,
-    }
+    matches!(a, Some(CellType::Mark))
 }
 
 /// Whether the column is the identity in all of them, and the next one the mark in mine.
@@ -276,21 +251,12 @@ fn published_types(
     ensures { IfOk result (λ types.
         types ≡ t.published_types at base.now mine.now later.now) }
 {
-    match base {
-        Some(a) => match mine {
-            Some(b) => match later {
-                Some(c) => {
-                    if are_published(at, a.as_slice(), b.as_slice(), c.as_slice()) {
-                        common_types(alloc, c.as_slice(), b.as_slice())
-                    } else {
-                        Ok(None)
-                    }
-                }
-                None => Ok(None),
-            },
-            None => Ok(None),
-        },
-        None => Ok(None),
+    match (base, mine, later) {
+        (Some(a), Some(b), Some(c))
+            if are_published(at, a.as_slice(), b.as_slice(), c.as_slice()) => {
+            common_types(alloc, c.as_slice(), b.as_slice())
+        }
+        _ => Ok(None),
     }
 }
 
@@ -320,7 +286,6 @@ fn types_of_both(
     }
 }
 
-/// The types of a PUBLISH.
 #[cycle(queries)]
 fn types_of_publish(
     alloc: Global,

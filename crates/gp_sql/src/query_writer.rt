@@ -62,13 +62,7 @@ fn step_number(query: &PQuery) -> Option<u32>
 {
     match query {
         PQuery::Step { j } => Some(*j),
-        PQuery::Scan { .. }
-        | PQuery::Filter { .. }
-        | PQuery::Project { .. }
-        | PQuery::Product { .. }
-        | PQuery::Union { .. }
-        | PQuery::Values { .. }
-        | PQuery::Publish { .. } => None,
+        _ => None,
     }
 }
 
@@ -76,16 +70,7 @@ fn step_number(query: &PQuery) -> Option<u32>
 fn is_projection(query: &PQuery) -> bool
     ensures { result ≡ q.is_projection (query_view query.now) }
 {
-    match query {
-        PQuery::Project { .. } => true,
-        PQuery::Scan { .. }
-        | PQuery::Step { .. }
-        | PQuery::Filter { .. }
-        | PQuery::Product { .. }
-        | PQuery::Union { .. }
-        | PQuery::Values { .. }
-        | PQuery::Publish { .. } => false,
-    }
+    matches!(query, PQuery::Project { .. })
 }
 
 /// What is due of the first columns, and of those behind them.
@@ -123,10 +108,10 @@ fn push_numbered(
         (query_view query.now) (q.translated catalog.now (types_after steps.now no_types) due.now
         (query_view query.now) n)) found before.old.items before.new.items) }
 {
-    let mut own = Vec::new(alloc);
-    let n = push_query(alloc, catalog, steps, due, query, n, before, &mut own)?;
+    let mut body = Vec::new(alloc);
+    let n = push_query(alloc, catalog, steps, due, query, n, before, &mut body)?;
     let materialized = is_materialized(in_publish, query);
-    push_named(alloc, catalog, Name::Query(n), materialized, &own, before)?;
+    push_named(alloc, catalog, Name::Query(n), materialized, &body, before)?;
     let next = next(n)?;
     Ok(Operand {
         source: Name::Query(n),
@@ -170,15 +155,15 @@ fn push_filter(
     cond: &Cond,
     n: u64,
     before: &mut Vec<u8>,
-    own: &mut Vec<u8>,
+    body: &mut Vec<u8>,
 ) -> Result<u64, NoMemory>
     ensures { IfOk result (λ next. Writes catalog.now (q.translated catalog.now
         (types_after steps.now no_types) due.now (p.select (query_view input.now)
-        (cond_view cond.now)) n) next before.old.items before.new.items own.old.items own.new.items) }
+        (cond_view cond.now)) n) next before.old.items before.new.items body.old.items body.new.items) }
 {
     let types = types_or_none(alloc, catalog, steps, input)?;
     let a = push_operand(alloc, catalog, steps, due, input, false, n, before)?;
-    push_selected(alloc, catalog, types.as_slice(), a.source, cond, own)?;
+    push_selected(alloc, catalog, types.as_slice(), a.source, cond, body)?;
     Ok(a.next)
 }
 
@@ -193,11 +178,11 @@ fn push_project(
     exprs: &[Expr],
     n: u64,
     before: &mut Vec<u8>,
-    own: &mut Vec<u8>,
+    body: &mut Vec<u8>,
 ) -> Result<u64, NoMemory>
     ensures { IfOk result (λ next. Writes catalog.now (q.translated catalog.now
         (types_after steps.now no_types) due.now (p.project (query_view input.now)
-        (map expr_view exprs.now)) n) next before.old.items before.new.items own.old.items own.new.items) }
+        (map expr_view exprs.now)) n) next before.old.items before.new.items body.old.items body.new.items) }
 {
     let types = types_or_none(alloc, catalog, steps, input)?;
     let a = push_operand(
@@ -210,7 +195,7 @@ fn push_project(
         n,
         before,
     )?;
-    push_projected(alloc, catalog, types.as_slice(), due, a.source, exprs, own)?;
+    push_projected(alloc, catalog, types.as_slice(), due, a.source, exprs, body)?;
     Ok(a.next)
 }
 
@@ -225,11 +210,11 @@ fn push_product(
     right: &PQuery,
     n: u64,
     before: &mut Vec<u8>,
-    own: &mut Vec<u8>,
+    body: &mut Vec<u8>,
 ) -> Result<u64, NoMemory>
     ensures { IfOk result (λ next. Writes catalog.now (q.translated catalog.now
         (types_after steps.now no_types) due.now (p.product (query_view left.now)
-        (query_view right.now)) n) next before.old.items before.new.items own.old.items own.new.items) }
+        (query_view right.now)) n) next before.old.items before.new.items body.old.items body.new.items) }
 {
     let types = types_or_none(alloc, catalog, steps, left)?;
     let others = types_or_none(alloc, catalog, steps, right)?;
@@ -243,7 +228,7 @@ fn push_product(
         others.as_slice(),
         a.source,
         b.source,
-        own,
+        body,
     )?;
     Ok(b.next)
 }
@@ -259,15 +244,15 @@ fn push_union(
     right: &PQuery,
     n: u64,
     before: &mut Vec<u8>,
-    own: &mut Vec<u8>,
+    body: &mut Vec<u8>,
 ) -> Result<u64, NoMemory>
     ensures { IfOk result (λ next. Writes catalog.now (q.translated catalog.now
         (types_after steps.now no_types) due.now (p.union (query_view left.now)
-        (query_view right.now)) n) next before.old.items before.new.items own.old.items own.new.items) }
+        (query_view right.now)) n) next before.old.items before.new.items body.old.items body.new.items) }
 {
     let a = push_operand(alloc, catalog, steps, due, left, false, n, before)?;
     let b = push_operand(alloc, catalog, steps, due, right, false, a.next, before)?;
-    push_united(alloc, catalog, a.source, b.source, own)?;
+    push_united(alloc, catalog, a.source, b.source, body)?;
     Ok(b.next)
 }
 
@@ -289,9 +274,9 @@ fn push_named_written(
           query = q.written_query at (source_of base) (source_of mine);
         })) }
 {
-    let mut own = Vec::new(alloc);
-    push_written(alloc, catalog, at, base, mine, &mut own)?;
-    push_named(alloc, catalog, Name::Query(n), true, &own, before)?;
+    let mut body = Vec::new(alloc);
+    push_written(alloc, catalog, at, base, mine, &mut body)?;
+    push_named(alloc, catalog, Name::Query(n), true, &body, before)?;
     next(n)
 }
 
@@ -308,12 +293,12 @@ fn push_publish(
     later: &PQuery,
     n: u64,
     before: &mut Vec<u8>,
-    own: &mut Vec<u8>,
+    body: &mut Vec<u8>,
 ) -> Result<u64, NoMemory>
     ensures { IfOk result (λ next. Writes catalog.now (q.translated catalog.now
         (types_after steps.now no_types) due.now (p.publish at (query_view base.now)
         (query_view mine.now) (query_view later.now)) n) next
-        before.old.items before.new.items own.old.items own.new.items) }
+        before.old.items before.new.items body.old.items body.new.items) }
 {
     let types = types_or_none(alloc, catalog, steps, base)?;
     let a = push_operand(
@@ -336,7 +321,7 @@ fn push_publish(
         Name::Query(c.next),
         b.source,
         c.source,
-        own,
+        body,
     )?;
     Ok(last)
 }
@@ -352,23 +337,23 @@ pub(crate) fn push_query(
     query: &PQuery,
     n: u64,
     before: &mut Vec<u8>,
-    own: &mut Vec<u8>,
+    body: &mut Vec<u8>,
 ) -> Result<u64, NoMemory>
     ensures { IfOk result (λ next. Writes catalog.now (q.translated catalog.now
         (types_after steps.now no_types) due.now (query_view query.now) n) next
-        before.old.items before.new.items own.old.items own.new.items) }
+        before.old.items before.new.items body.old.items body.new.items) }
 {
     match query {
         PQuery::Scan { table, version } => {
-            push_scanned(alloc, catalog, *table, *version, own)?;
+            push_scanned(alloc, catalog, *table, *version, body)?;
             Ok(n)
         }
         PQuery::Step { j } => {
-            push_all_of(alloc, catalog, Name::Step(*j), own)?;
+            push_all_of(alloc, catalog, Name::Step(*j), body)?;
             Ok(n)
         }
         PQuery::Filter { input, cond } => {
-            push_filter(alloc, catalog, steps, due, input, cond, n, before, own)
+            push_filter(alloc, catalog, steps, due, input, cond, n, before, body)
         }
         PQuery::Project { input, exprs } => {
             push_project(
@@ -380,17 +365,17 @@ pub(crate) fn push_query(
                 exprs.as_slice(),
                 n,
                 before,
-                own,
+                body,
             )
         }
         PQuery::Product { left, right } => {
-            push_product(alloc, catalog, steps, due, left, right, n, before, own)
+            push_product(alloc, catalog, steps, due, left, right, n, before, body)
         }
         PQuery::Union { left, right } => {
-            push_union(alloc, catalog, steps, due, left, right, n, before, own)
+            push_union(alloc, catalog, steps, due, left, right, n, before, body)
         }
         PQuery::Values { rows } => {
-            push_values(alloc, catalog, due, rows.as_slice(), own)?;
+            push_values(alloc, catalog, due, rows.as_slice(), body)?;
             Ok(n)
         }
         PQuery::Publish {
@@ -399,7 +384,7 @@ pub(crate) fn push_query(
             mine,
             later,
         } => push_publish(
-            alloc, catalog, steps, due, *at, base, mine, later, n, before, own,
+            alloc, catalog, steps, due, *at, base, mine, later, n, before, body,
         ),
     }
 }

@@ -198,7 +198,7 @@ fn write_table_at(
         ++ place_text catalog.now (span_lists versions.now) place) }
 {
     match versions.get(place as usize) {
-        Some(own) => write_table(alloc, catalog.table(place), own.as_slice(), out),
+        Some(found) => write_table(alloc, catalog.table(place), found.as_slice(), out),
         None => Ok(()),
     }
 }
@@ -212,7 +212,7 @@ pub fn write_tables(
     out: &mut Vec<u8>,
 ) -> Result<(), NoMemory>
     ensures { OnOk result (out.new.items ≡ out.old.items
-        ++ t.tables_text catalog.now (map (λ (own : Versions). own.spans) versions.now)) }
+        ++ t.tables_text catalog.now (map (λ (table : Versions). table.spans) versions.now)) }
 {
     for place in 0..catalog.len() {
         write_table_at(alloc, catalog, versions, place, out)?;

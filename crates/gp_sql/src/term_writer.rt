@@ -29,27 +29,17 @@ fn cmp_text(cmp: Cmp) -> &'static [u8]
     }
 }
 
-/// Whether this is the type of NULL.
 fn is_null_type(a: Option<CellType>) -> bool
     ensures { result ≡ t.is_null_type a }
 {
-    match a {
-        Some(a) => match a {
-            CellType::Null => true,
-            CellType::Int | CellType::Text | CellType::Id | CellType::Mark => false,
-        },
-        None => false,
-    }
+    matches!(a, Some(CellType::Null))
 }
 
 /// The type, or that of NULL where there is none.
 fn type_or_null(a: Option<CellType>) -> CellType
     ensures { result ≡ t.type_or_null a }
 {
-    match a {
-        Some(a) => a,
-        None => CellType::Null,
-    }
+    a.unwrap_or(CellType::Null)
 }
 
 /// Appends a column, or a NULL where its type is NULL's.
@@ -70,7 +60,6 @@ fn push_column(
     append_all(out, &[b"c", n.as_bytes()])
 }
 
-/// The number in a cell.
 fn number_in(cell: &Cell) -> Option<i64>
     ensures { result ≡ t.literal (e.constant cell.now) }
 {
@@ -86,14 +75,7 @@ fn literal(expr: &Expr) -> Option<i64>
 {
     match expr {
         Expr::Const(cell) => number_in(cell),
-        Expr::Col(_)
-        | Expr::Add(_, _)
-        | Expr::Sub(_, _)
-        | Expr::Mul(_, _)
-        | Expr::Neg(_)
-        | Expr::Case(_, _, _)
-        | Expr::NewId { .. }
-        | Expr::Times(_, _) => None,
+        _ => None,
     }
 }
 
@@ -226,12 +208,7 @@ fn push_chain(
             push_chain(alloc, catalog, types, left, out)?;
             push_enclosed_cond(alloc, catalog, types, b" AND ", right, b"", out)
         }
-        Cond::True
-        | Cond::Cmp(_, _, _)
-        | Cond::IsNull { .. }
-        | Cond::IsTrue { .. }
-        | Cond::Or(_, _)
-        | Cond::Not(_) => push_cond(alloc, catalog, types, cond, out),
+        _ => push_cond(alloc, catalog, types, cond, out),
     }
 }
 
@@ -283,25 +260,25 @@ fn push_case(
     catalog: &Catalog,
     types: &[CellType],
     due: CellType,
-    own: Option<CellType>,
+    of_case: Option<CellType>,
     when: &Cond,
     first: &Expr,
     other: &Expr,
     out: &mut Vec<u8>,
 ) -> Result<(), NoMemory>
     ensures { OnOk result (out.new.items ≡ out.old.items
-        ++ p.term_text catalog.now (t.unless_null own due
+        ++ p.term_text catalog.now (t.unless_null of_case due
         (s.case (t.cond_test types.now (cond_view when.now))
-        (t.expr_term types.now (t.type_or_null own) (expr_view first.now))
-        (t.expr_term types.now (t.type_or_null own) (expr_view other.now))))) }
+        (t.expr_term types.now (t.type_or_null of_case) (expr_view first.now))
+        (t.expr_term types.now (t.type_or_null of_case) (expr_view other.now))))) }
 {
-    if is_null_type(own) {
+    if is_null_type(of_case) {
         return push_null(due, out);
     }
-    let own = type_or_null(own);
+    let of_case = type_or_null(of_case);
     push_enclosed_cond(alloc, catalog, types, b"CASE WHEN ", when, b" THEN ", out)?;
-    push_enclosed(alloc, catalog, types, own, b"", first, b" ELSE ", out)?;
-    push_enclosed(alloc, catalog, types, own, b"", other, b" END", out)
+    push_enclosed(alloc, catalog, types, of_case, b"", first, b" ELSE ", out)?;
+    push_enclosed(alloc, catalog, types, of_case, b"", other, b" END", out)
 }
 
 /// Appends the identities behind the first one, and the closing bracket.
@@ -439,8 +416,8 @@ pub(crate) fn push_expr(
             out,
         ),
         Expr::Case(when, first, other) => {
-            let own = expr_type(types, expr);
-            push_case(alloc, catalog, types, due, own, when, first, other, out)
+            let of_case = expr_type(types, expr);
+            push_case(alloc, catalog, types, due, of_case, when, first, other, out)
         }
         Expr::NewId { t, k, b, parts } => {
             push_new_id(alloc, catalog, types, *t, *k, *b, parts, out)

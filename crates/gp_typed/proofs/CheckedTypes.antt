@@ -1,5 +1,5 @@
 -- Checked statements and queries have types.
-use Rattle.gp_typed.proofs.Prelude.{◌≡◌, ℕ, Bool, true, false, cond, List, [], ◌∷◌, ◌++◌, length, map, Some, None, Ok, refl, sym, ap, subst, ◌∙◌, append-nil, length-append, arith, Option, is_some, ◌&&◌, fold, list_all, option_map_or, and_parts, and_from, false≢true, Cell, Column, Table, none_parts, Bytes, Command, Item, Term, joined_width, Select, Statement, columns_behind, Place, Found, TermType, checked_query, first_fault, first_refusal, table_fault, cond_of, expr_of, meant_statement, number_of_table, select_of, Scope, columns_of, resolution, scope_of, agrees, common_type, is_value, query_is_valid, accepted, holds_if, CellType, Null, both_types, cell_type, common, common_types, cond_is_typed, expr_type, exprs_types, kind_type, row_types, type_at, with_first, are_into, branch_types, fill, is_into, joined_types, optional_cond_is_typed, select_is_typed, select_types, set_is_typed, statement_is_typed, table_types}
+use Rattle.gp_typed.proofs.Prelude.{◌≡◌, ℕ, Bool, true, false, cond, List, [], ◌∷◌, ◌++◌, length, map, Some, None, Ok, refl, sym, ap, subst, ◌∙◌, append-nil, length-append, arith, Option, is_some, ◌&&◌, fold, list_all, option_map_or, and_parts, and_from, false≢true, Cell, Column, Table, none_parts, Bytes, Command, Term, joined_width, Select, Statement, columns_behind, Place, Found, TermType, checked_query, first_refusal, table_fault, cond_of, expr_of, meant_statement, number_of_table, select_of, Scope, columns_of, resolution, scope_of, agrees, common_type, is_value, query_is_valid, accepted, holds_if, CellType, Null, both_types, cell_type, common, common_types, cond_is_typed, expr_type, exprs_types, kind_type, row_types, type_at, with_first, are_into, branch_types, fill, is_into, joined_types, optional_cond_is_typed, select_is_typed, select_types, set_is_typed, statement_is_typed, table_types}
 use Rattle.std.specs.Option.{option_map, option_or}
 use Rattle.gp_base.specs.declared.cell.Cell.TheVariants as cell
 use Rattle.gp_base.specs.declared.refusal.Refusal.TheVariants.{E07, E15}
@@ -11,7 +11,7 @@ use Rattle.gp_check.specs.declared.place.Resolution.TheVariants.{Absent, Ambiguo
 use Rattle.gp_check.specs.declared.types.TermType.TheVariants as t
 use Rattle.gp_check.specs.Checking.{checked}
 use Rattle.gp_check.specs.Faults as f
-use Rattle.gp_check.specs.Faults.{agree_with, all_agree, are_values, block_tables_fault, block_types, block_where_is_typed, blocks_are_typed, cells_agree, columns_fault, items_types, kind_types, names_fault, pairs_agree, query_is_typed, query_tables_fault, scope_types, scope_width, set_name, sets_fault, tables_fault, unless, where_is_typed, widths_agree}
+use Rattle.gp_check.specs.Faults.{agree_with, all_agree, are_values, block_tables_fault, block_types, block_where_is_typed, cells_agree, columns_fault, items_types, kind_types, names_fault, pairs_agree, query_is_typed, query_tables_fault, scope_types, scope_width, set_name, sets_fault, tables_fault, unless, where_is_typed, widths_agree}
 use Rattle.gp_check.specs.Meaning.{branch_of, column_number, exprs_of, set_expr_of, where_of}
 use Rattle.gp_check.specs.Scopes.{target_scope}
 use Rattle.gp_check.specs.Typing as check

@@ -1,5 +1,5 @@
 -- The statements of a well-formed dump have types over its tables, and its row versions have cells of the types of their columns.
-use Rattle.gp_typed.proofs.Prelude.{◌≡◌, ◌≤◌, ℕ, zero, suc, true, false, List, [], ◌∷◌, ◌++◌, length, map, None, Ok, refl, sym, subst, arith, ◌&&◌, AllByRecursion, and_parts, and_from, le-leb, Cell, Column, Kind, Table, identity, no_sources, is_u32, Command, select_fits, statement_fits, Select, checked_query, first_refusal, meant_statement, select_of, query_is_valid, accepted, Began, Committed, Created, Ended, Entry, Ran, log_refusal, tables_in, are_u32, is_typed, kind_type, statement_is_typed, statements_are_typed, merged_at}
+use Rattle.gp_typed.proofs.Prelude.{◌≡◌, ◌≤◌, ℕ, zero, suc, true, false, List, [], ◌∷◌, ◌++◌, length, map, None, Ok, refl, sym, subst, arith, ◌&&◌, AllByRecursion, and_parts, and_from, le-leb, Cell, Column, Kind, Table, identity, no_sources, is_u32, select_fits, statement_fits, Select, checked_query, first_refusal, meant_statement, select_of, query_is_valid, accepted, Began, Committed, Created, Ended, Entry, Ran, log_refusal, tables_in, are_u32, is_typed, kind_type, statement_is_typed, statements_are_typed, merged_at}
 use Rattle.std.proofs.Common.{true≢false}
 use Rattle.std.specs.Prelude.{slice_index_or}
 use Rattle.gp_base.specs.declared.cell.Cell.TheVariants as cell

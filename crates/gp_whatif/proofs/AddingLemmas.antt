@@ -1,29 +1,14 @@
 -- A log with a statement added, made from the oldest entry on.
-use Rattle.std.proofs.Common.{◌≡◌, ℕ, suc, ◌+◌, ◌<◌, ◌≤◌, Bool, true, false, cond, List, [], ◌∷◌, ◌++◌, length, take, Option, Some, None, refl, sym, ap, ◌∙◌, subst, arith}
-use Rattle.std.specs.Prelude.{◌==◌, nat_lt, slice_get}
+use Rattle.gp_whatif.proofs.Prelude.{◌≡◌, ℕ, suc, ◌+◌, ◌<◌, ◌≤◌, Bool, true, false, cond, List, [], ◌∷◌, ◌++◌, length, take, Option, Some, None, refl, sym, ap, ◌∙◌, subst, arith, ◌==◌, nat_lt, slice_get, nat_tests, length-append, same_Some, HaveDifferentNames, MAX_TABLES, Statement, Command, statement_count, line_of, session_of, log-pushed, IsAddable, IsNumbered, tables_in, entry_view, log_view, what_view, What, log-more, eqb-true, ltb-true}
 use Rattle.std.specs.List.{AllByRecursion}
-use Rattle.std.proofs.lemmas.Bool.Decides.{nat_tests}
-use Rattle.std.proofs.lemmas.List.{length-append}
-use Rattle.std.proofs.lemmas.Option.{slice_get_within, same_Some}
-use Rattle.gp_base.specs.CatalogForms.{HaveDifferentNames}
-use Rattle.gp_base.specs.declared.catalog.TheConstants.{MAX_TABLES}
-use Rattle.gp_algebra.specs.Statements.{Statement}
-use Rattle.gp_grammar.specs.Syntax.{Command}
+use Rattle.std.proofs.lemmas.Option.{slice_get_within}
 use Rattle.gp_machine.specs.Entries as m
-use Rattle.gp_machine.specs.Entries.{statement_count, line_of, session_of}
-use Rattle.gp_log.proofs.EntryLemmas.{log-pushed}
-use Rattle.gp_log.specs.Kinds.{IsAddable, IsNumbered}
-use Rattle.gp_log.specs.LogFacts.{tables_in}
-use Rattle.gp_log.specs.Logs.{entry_view, log_view, what_view}
 use Rattle.gp_log.specs.declared.entry.Entry.{Entry}
-use Rattle.gp_log.specs.declared.entry.What.{What}
 use Rattle.gp_log.specs.declared.entry.What.TheVariants as w
 use Rattle.gp_whatif.specs.Changed.{is_step_of, tables_at_end, with_added}
 use Rattle.gp_whatif.specs.Changing.{IsLastStep, Numbers, SameStep, is_last, step_of}
-use Rattle.gp_log.proofs.FindingLemmas.{log-more}
 use Rattle.gp_whatif.proofs.ChangedLemmas.{added_same}
 use Rattle.gp_whatif.proofs.ChangingLemmas.{addable, creates_new, log-all, numbers_next}
-use Rattle.std.proofs.lemmas.Bool.{eqb-true, ltb-true}
 use Rattle.gp_base.proofs.SmallLemmas.{eq_turned}
 
 -- ---- steps of a transaction

@@ -1,24 +1,14 @@
 -- A transaction reads no rows of tables that are not there, and commits made again make none.
-use Rattle.std.proofs.Common.{◌≡◌, ℕ, zero, suc, ◌<◌, ◌≤◌, true, false, cond, List, [], ◌++◌, Option, Some, None, refl, ap, ◌∙◌, arith, length, map}
-use Rattle.std.specs.Prelude.{◌==◌, not}
+use Rattle.gp_whatif.proofs.Prelude.{◌≡◌, ℕ, zero, suc, ◌<◌, ◌≤◌, true, false, cond, List, [], ◌++◌, Option, Some, None, refl, ap, ◌∙◌, arith, length, map, ◌==◌, nat_tests, Table, Database, Environment, unannotated, Written, step, Statement, insert, insert_select, update, delete, read, pairs, is_written, next_version, Entry, Log, committer_of, log_of, statement_at, statement_count, statement_version, HasTarget, Seen, start_by, replayed, rerun, upto_version, replayed_spans, refreshed, run, run_before, stepped, statements_fit}
+use Rattle.std.specs.Prelude.{not}
 use Rattle.std.specs.List.{filter}
-use Rattle.std.proofs.lemmas.Bool.Decides.{nat_tests}
-use Rattle.gp_base.specs.declared.table.Table.{Table}
-use Rattle.gp_base.specs.Annotated.{Annotated, Database, Environment, unannotated}
-use Rattle.gp_algebra.specs.Effects.{Written, step, with_rows}
-use Rattle.gp_algebra.specs.Statements.{Statement, insert, insert_select, update, delete, read}
-use Rattle.gp_machine.specs.Bases.{pairs}
-use Rattle.gp_machine.specs.Committed.{is_written, merged, next_version, unmarked}
-use Rattle.gp_machine.specs.Entries.{Entry, Log, committer_of, log_of, statement_at, statement_count, statement_version}
+use Rattle.gp_base.specs.Annotated.{Annotated}
+use Rattle.gp_algebra.specs.Effects.{with_rows}
+use Rattle.gp_machine.specs.Committed.{merged, unmarked}
 use Rattle.gp_machine.specs.HistorySpans.{span_from, spans_upto}
-use Rattle.gp_machine.specs.CheckedTargets.{HasTarget}
 use Rattle.gp_machine.specs.Publishing.{publish, was_written}
-use Rattle.gp_machine.specs.Reading.{Seen, started}
-use Rattle.gp_machine.specs.ReadBy.{seen_by, start_by}
-use Rattle.gp_machine.specs.Replaying.{replayed, rerun}
-use Rattle.gp_machine.specs.ReplayForms.{upto_version, replayed_spans}
-use Rattle.gp_machine.specs.Runs.{refreshed, run, run_before, stepped}
-use Rattle.gp_log.specs.LogFitting.{statements_fit}
+use Rattle.gp_machine.specs.Reading.{started}
+use Rattle.gp_machine.specs.ReadBy.{seen_by}
 use Rattle.gp_whatif.specs.Replays.{WritesTables}
 use Rattle.gp_log.proofs.FittingLogs.{statement_at_fits}
 use Rattle.gp_whatif.proofs.FittingLogs.{fits_target, statement_at_target}

@@ -1,19 +1,7 @@
 -- A changed log keeps its sessions, and its statements fit.
-use Rattle.std.proofs.Common.{◌≡◌, ℕ, suc, ◌*◌, Bool, true, false, cond, List, [], ◌∷◌, ◌++◌, map, Some, None, refl, sym, ap, arith, ◌∙◌}
-use Rattle.std.specs.Prelude.{◌==◌, ◌&&◌}
-use Rattle.std.proofs.lemmas.Bool.{and_parts, eq-eqb, and_from, eqb-true}
-use Rattle.std.specs.List.{list_all}
-use Rattle.gp_base.specs.declared.table.Table.{Table}
-use Rattle.gp_grammar.specs.Syntax.{Command}
-use Rattle.gp_algebra.specs.Fitting.{branches_fit, cond_fits, is_countable, is_there, row_fits, set_fits, statement_fits}
-use Rattle.gp_algebra.specs.Statements.{width_of}
-use Rattle.gp_algebra.specs.Statements.{Statement, insert, insert_select, update, delete, read}
-use Rattle.gp_machine.specs.Entries.{End, Entry, Created, Began, Ran, Committed, Ended, transactions_in, line_of, session_of}
-use Rattle.gp_log.specs.Discipline.{transaction_in}
-use Rattle.gp_log.specs.LogFitting.{statements_fit}
-use Rattle.gp_log.specs.LogFacts.{tables_in}
+use Rattle.gp_whatif.proofs.Prelude.{◌≡◌, ℕ, suc, ◌*◌, Bool, true, false, cond, List, [], ◌∷◌, ◌++◌, map, Some, None, refl, sym, ap, arith, ◌∙◌, ◌==◌, ◌&&◌, and_parts, eq-eqb, eqb-true, list_all, Table, Command, branches_fit, cond_fits, is_countable, is_there, row_fits, set_fits, statement_fits, width_of, Statement, insert, insert_select, update, delete, read, End, Entry, Created, Began, Ran, Committed, Ended, transactions_in, line_of, session_of, transaction_in, statements_fit, tables_in, KeepsSessions}
+use Rattle.std.proofs.lemmas.Bool.{and_from}
 use Rattle.gp_whatif.specs.Changed.{dropped_command, dropped_of, dropped_statement, is_at, is_step_of, nothing_at, spread, with_added, with_other}
-use Rattle.gp_log.specs.Sessions.{KeepsSessions}
 
 -- ---- two logs with the same sessions and transactions
 

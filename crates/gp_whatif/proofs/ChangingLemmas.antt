@@ -1,32 +1,19 @@
 -- A changed log, made from the oldest entry on.
-use Rattle.std.proofs.Common.{◌≡◌, ◌≢◌, ℕ, suc, ◌+◌, ◌<◌, ◌≤◌, Bool, true, false, cond, List, [], ◌∷◌, ◌++◌, filter, get_or, length, map, take, drop, Some, None, refl, sym, ap, ◌∙◌, subst, arith}
-use Rattle.std.specs.Prelude.{◌&&◌, ◌==◌, slice_get, nat_lt}
+use Rattle.gp_whatif.proofs.Prelude.{◌≡◌, ◌≢◌, ℕ, suc, ◌+◌, ◌<◌, ◌≤◌, Bool, true, false, cond, List, [], ◌∷◌, ◌++◌, filter, length, map, take, drop, Some, None, refl, sym, ap, ◌∙◌, subst, arith, ◌&&◌, ◌==◌, slice_get, nat_lt, and_parts, false≢true, ne_eqb, eqb-true, nat_tests, append-nil, length-append, take_all, HaveDifferentNames, MAX_TABLES, Table, Statement, statement_view, Command, LogChange, statement_count, line_of, log-pushed, log-more, IsAddable, IsNumbered, tables_in, entry_view, log_view, what_view, What}
+use Rattle.std.proofs.Common.{get_or}
 use Rattle.std.specs.Str.{bytes_eq}
-use Rattle.std.proofs.lemmas.Bool.{and_parts, false≢true, ne_eqb, eqb-true}
-use Rattle.std.proofs.lemmas.Bool.Decides.{nat_tests}
-use Rattle.std.proofs.lemmas.List.{append-nil, get_or_append_left, get_or_at, length-append, take_all}
+use Rattle.std.proofs.lemmas.List.{get_or_append_left, get_or_at}
 use Rattle.std.proofs.lemmas.List.Elements.{filter-append}
 use Rattle.std.proofs.lemmas.List.Sums.{position_or_len_is}
 use Rattle.std.proofs.lemmas.Slice.Eq.{bytes_eq-Decides}
 use Rattle.gp_base.specs.Catalogs.{place_of, table_names}
-use Rattle.gp_base.specs.CatalogForms.{HaveDifferentNames}
-use Rattle.gp_base.specs.declared.catalog.TheConstants.{MAX_TABLES}
-use Rattle.gp_base.specs.declared.table.Table.{Table}
-use Rattle.gp_algebra.specs.Statements.{Statement}
-use Rattle.gp_algebra.specs.Views.{statement_view}
-use Rattle.gp_grammar.specs.Syntax.{Command, LogChange}
 use Rattle.gp_syntax.specs.Views.{command_view}
 use Rattle.gp_machine.specs.Entries as m
-use Rattle.gp_machine.specs.Entries.{statement_count, line_of}
-use Rattle.gp_log.proofs.EntryLemmas.{log-pushed}
-use Rattle.gp_log.proofs.FindingLemmas.{log-cut, log-more, count-least}
+use Rattle.gp_log.proofs.FindingLemmas.{log-cut, count-least}
 use Rattle.gp_log.specs.Finding.{is_numbered, is_own}
-use Rattle.gp_log.specs.Kinds.{CreatesNew, HasNextNumber, IsAddable, IsNumbered, created_by}
+use Rattle.gp_log.specs.Kinds.{CreatesNew, HasNextNumber, created_by}
 use Rattle.gp_log.specs.declared.limit.TheConstants.{MAX_LINE}
-use Rattle.gp_log.specs.LogFacts.{tables_in}
-use Rattle.gp_log.specs.Logs.{entry_view, log_view, what_view}
 use Rattle.gp_log.specs.declared.entry.Entry.{Entry}
-use Rattle.gp_log.specs.declared.entry.What.{What}
 use Rattle.gp_log.specs.declared.entry.What.TheVariants as w
 use Rattle.gp_whatif.specs.Changed.{adds, dropped_command, dropped_of, dropped_statement, is_at, spread, tables_before, with_other}
 use Rattle.gp_whatif.specs.ChangedForms.{AreLines}

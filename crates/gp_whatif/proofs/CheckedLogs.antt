@@ -1,24 +1,13 @@
 -- The statements of a log, and of a changed one, are what the check makes of their commands.
-use Rattle.std.proofs.Common.{◌≡◌, ℕ, suc, Bool, true, false, cond, List, [], ◌∷◌, map, Option, Some, None, refl, sym, ap, ◌∙◌, subst}
-use Rattle.std.specs.Prelude.{◌==◌, Result, Ok, Err}
-use Rattle.std.specs.Option.{option_or}
-use Rattle.gp_base.specs.declared.refusal.Refusal.{Refusal}
-use Rattle.gp_base.specs.declared.table.Table.{Table}
+use Rattle.gp_whatif.proofs.Prelude.{◌≡◌, ℕ, suc, Bool, true, false, cond, List, [], ◌∷◌, map, Option, Some, None, refl, sym, ap, ◌∙◌, subst, ◌==◌, Result, Ok, Err, option_or, Refusal, Table, Command, LogChange, Statement, checked, first_refusal, accepted, Entry, Created, Began, Ran, Committed, Ended, line_of, session_of, statement_refusal, transaction_refusal, IsLog, parameters, tables_in}
 use Rattle.gp_grammar.specs.Syntax as y
-use Rattle.gp_grammar.specs.Syntax.{Bytes, Command, LogChange}
+use Rattle.gp_grammar.specs.Syntax.{Bytes}
 use Rattle.gp_algebra.specs.Statements as s
-use Rattle.gp_algebra.specs.Statements.{Statement}
-use Rattle.gp_check.specs.Checking.{checked, refused_by}
-use Rattle.gp_check.specs.Faults.{block_columns_fault, block_types, block_where_is_typed, first_refusal, query_tables_fault, table_fault, tables_fault}
+use Rattle.gp_check.specs.Checking.{refused_by}
+use Rattle.gp_check.specs.Faults.{block_columns_fault, block_types, block_where_is_typed, query_tables_fault, table_fault, tables_fault}
 use Rattle.gp_check.specs.Meaning.{branch_of, number_of_table, select_of, set_expr_of, where_of}
 use Rattle.gp_check.specs.Scopes.{target_scope}
-use Rattle.gp_check.proofs.FittingLemmas.{accepted}
-use Rattle.gp_machine.specs.Entries.{Entry, Created, Began, Ran, Committed, Ended, line_of, session_of}
-use Rattle.gp_machine.specs.Questions.{statement_refusal, transaction_refusal}
-use Rattle.gp_log.specs.Discipline.{IsLog}
-use Rattle.gp_log.specs.Parameters.{parameters}
 use Rattle.gp_log.proofs.CheckedEntries.{was_checked}
-use Rattle.gp_log.specs.LogFacts.{tables_in}
 use Rattle.gp_whatif.specs.Changed.{changed, changed_log, dropped_command, dropped_of, dropped_statement, is_at, is_step_of, lines_for, nothing_at, nothing_from, rewritten, spread, steps_refusal, tables_at_end, tables_before, with_added, with_other}
 use Rattle.gp_whatif.specs.ChangedForms.{AreChecked}
 use Rattle.gp_whatif.proofs.ChangedLemmas.{added_same, all_dropped_same, other_same, spread_same}

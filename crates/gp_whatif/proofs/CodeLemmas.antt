@@ -1,13 +1,9 @@
 -- What the code tells of a statement, and of tables without row versions.
-use Rattle.std.proofs.Common.{◌≡◌, ◌≤◌, ℕ, true, List, ◌++◌, length, take, drop, refl, ◌∙◌, arith}
-use Rattle.std.proofs.lemmas.List.{take-append-le, take_all}
-use Rattle.gp_algebra.specs.Fitting.{statement_fits}
-use Rattle.gp_algebra.specs.Statements.{Statement, insert, insert_select, update, delete, read}
-use Rattle.gp_algebra.specs.Views.{statement_view}
+use Rattle.gp_whatif.proofs.Prelude.{◌≡◌, ◌≤◌, ℕ, true, List, ◌++◌, length, take, drop, refl, ◌∙◌, arith, take_all, statement_fits, Statement, insert, insert_select, update, delete, read, statement_view, Table}
+use Rattle.std.proofs.lemmas.List.{take-append-le}
 use Rattle.gp_algebra.specs.declared.statement.Select as code
 use Rattle.gp_algebra.specs.declared.statement.Stmt.{Stmt}
 use Rattle.gp_algebra.specs.declared.statement.Stmt.TheVariants as variant
-use Rattle.gp_base.specs.declared.table.Table.{Table}
 use Rattle.gp_txn.proofs.FitLemmas.{statement-applicable}
 use Rattle.gp_txn.specs.Applying.{is_applicable}
 use Rattle.gp_whatif.specs.Remade.{can_run}

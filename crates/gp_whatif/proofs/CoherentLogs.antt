@@ -1,30 +1,15 @@
 -- A changed log is coherent if the log is, and so is the log of every history.
-use Rattle.std.proofs.Common.{◌≡◌, ◌≤◌, ℕ, suc, Bool, true, false, cond, List, [], ◌∷◌, ◌++◌, length, map, Option, Some, None, refl, sym, ap, ◌∙◌, subst, arith, nat_le, length-append}
-use Rattle.std.specs.Prelude.{◌==◌, Result, Ok, Err}
-use Rattle.std.specs.Option.{option_map, option_or}
-use Rattle.std.proofs.lemmas.Bool.{and_parts, eqb-true}
-use Rattle.gp_base.specs.declared.refusal.Refusal.{Refusal}
-use Rattle.gp_base.specs.declared.table.Table.{Table}
+use Rattle.gp_whatif.proofs.Prelude.{◌≡◌, ◌≤◌, ℕ, suc, Bool, true, false, cond, List, [], ◌∷◌, ◌++◌, length, map, Option, Some, None, refl, sym, ap, ◌∙◌, subst, arith, ◌==◌, Result, Ok, Err, option_or, and_parts, eqb-true, Refusal, Table, statement_fits, Statement, insert, insert_select, update, delete, read, Command, LogChange, Conflict, End, Entry, Created, Began, Ran, Committed, Ended, transactions_in, line_of, session_of, Line, after, Parameters, ChecksTargets, HasTarget, statement_refusal, transaction_refusal, Active, State, start, transaction_in, tables_in, statements_fit, KeepsSessions}
+use Rattle.std.proofs.Common.{nat_le, length-append}
+use Rattle.std.specs.Option.{option_map}
 use Rattle.gp_base.specs.Annotated.{Annotations}
-use Rattle.gp_algebra.specs.Fitting.{statement_fits}
-use Rattle.gp_algebra.specs.Statements.{Statement, insert, insert_select, update, delete, read}
 use Rattle.gp_grammar.specs.Syntax as y
-use Rattle.gp_grammar.specs.Syntax.{Command, LogChange}
 use Rattle.gp_machine.specs.ActionForms.{Action, Begin, Commit, Create, Rollback, Run, action_of}
 use Rattle.gp_machine.specs.ActionForms as a
 use Rattle.gp_machine.proofs.ActionLemmas.{event-answered}
-use Rattle.gp_machine.specs.Conflicts.{Conflict}
-use Rattle.gp_machine.specs.Entries.{End, Entry, Created, Began, Ran, Committed, Ended, Lost, RolledBack, statements_in, transactions_in, line_of, session_of}
+use Rattle.gp_machine.specs.Entries.{Lost, RolledBack, statements_in}
 use Rattle.gp_machine.specs.Event as e
-use Rattle.gp_machine.specs.Event.{Line, after, conflict_of, count_refusal, creation_refusal, is_full, line_event, refusal_of, start_now}
-use Rattle.gp_machine.specs.Parameters.{Parameters}
-use Rattle.gp_machine.specs.CheckedTargets.{ChecksTargets, HasTarget}
-use Rattle.gp_machine.specs.Questions.{statement_refusal, transaction_refusal}
-use Rattle.gp_machine.specs.State.{Active, State, start}
-use Rattle.gp_log.specs.Discipline.{transaction_in}
-use Rattle.gp_log.specs.LogFacts.{tables_in}
-use Rattle.gp_log.specs.LogFitting.{statements_fit}
-use Rattle.gp_log.specs.Sessions.{KeepsSessions}
+use Rattle.gp_machine.specs.Event.{conflict_of, count_refusal, creation_refusal, is_full, line_event, refusal_of, start_now}
 use Rattle.gp_whatif.specs.Changed.{changed, changed_log, dropped_command, dropped_of, dropped_statement, is_at, is_step_of, lines_for, spread, steps_refusal, tables_at_end, tables_before, with_added, with_other}
 use Rattle.gp_whatif.specs.Replays.{IsCoherent, IsReplayable, WritesTables}
 use Rattle.gp_whatif.proofs.ChangedLemmas.{SameSessions, added_same, all_dropped_same, other_same, spread_same}

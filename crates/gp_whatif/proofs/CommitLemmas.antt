@@ -1,14 +1,10 @@
 -- The commit of a transaction that has run again is the one that the replay says.
-use Rattle.std.proofs.Common.{◌≡◌, ℕ, zero, suc, ◌+◌, ◌-◌, ◌<◌, ◌≤◌, Bool, true, false, List, [], length, map, Option, Some, None, refl, sym, ap, ◌∙◌, subst, arith}
-use Rattle.std.specs.Prelude.{nat_lt}
+use Rattle.gp_whatif.proofs.Prelude.{◌≡◌, ℕ, zero, suc, ◌+◌, ◌<◌, ◌≤◌, Bool, true, false, List, [], length, map, Option, Some, None, refl, sym, ap, ◌∙◌, subst, arith, nat_lt, option_or, unannotated, Statement, Versions, rows_at, Writes, table_at, view_at, writes_at, pairs, is_written, next_version, Conflict, least_conflict, Entry, Log, committer_of, log_of, statement_at, statement_count, statement_version, versions_in, published_rows, OverNodes, OverRows, RunStop, run_stop, Seen, Replay, first_stop, rerun, version_stop, CommitsInOrder, upto_version, Overlay, RepresentsActive, Active, parameters, tables_in, commits_in_order}
+use Rattle.std.proofs.Common.{◌-◌}
 use Rattle.std.specs.List.{filter}
-use Rattle.std.specs.Option.{option_or}
 use Rattle.std.proofs.lemmas.Bool.{le-ltb, lt-ltb}
 use Rattle.std.proofs.Math.ListN.{get_or-eq_default}
-use Rattle.gp_base.specs.Annotated.{unannotated}
-use Rattle.gp_algebra.specs.Statements.{Statement}
 use Rattle.gp_versions.specs.Commits.{AreDistinct}
-use Rattle.gp_versions.specs.Spans.{Versions, rows_at}
 use Rattle.gp_txn.proofs.AfterLemmas.{commit-bases, commit-count, commit-rows, spans-everywhere}
 use Rattle.gp_txn.proofs.LostLemmas.{lost-first, not-lost-first}
 use Rattle.gp_txn.specs.Committing as txn
@@ -16,7 +12,7 @@ use Rattle.gp_txn.specs.Committing.{HasCause, commit_of, spans_left, view_below}
 use Rattle.gp_txn.specs.Conflicts.{IsFirstConflict, lates_at}
 use Rattle.gp_txn.specs.Counts.{count_rows, count_spans}
 use Rattle.gp_txn.specs.Overlay.{PlainRow, carried_write}
-use Rattle.gp_txn.specs.Transactions.{HoldsOwn, Writes, no_table, table_at, view_at, writes_at}
+use Rattle.gp_txn.specs.Transactions.{HoldsOwn, no_table}
 use Rattle.gp_txn.specs.declared.conflict.Conflict as late
 use Rattle.gp_base.specs.declared.limit.TheConstants.{MAX_SPANS}
 use Rattle.gp_txn.specs.declared.error.CommitStop.{CommitStop}
@@ -25,29 +21,17 @@ use Rattle.gp_machine.proofs.FoundLemmas.{shown_is}
 use Rattle.gp_machine.proofs.OverlayLemmas.{marked_are}
 use Rattle.gp_machine.proofs.ReplayLemmas.{again_is, rows_made, spans_made}
 use Rattle.gp_machine.proofs.SpanCommit.{commit_spans}
-use Rattle.gp_machine.specs.Bases.{pairs}
-use Rattle.gp_machine.specs.Committed.{is_written, next_version}
-use Rattle.gp_machine.specs.Conflicts.{Conflict, least_conflict}
 use Rattle.gp_machine.specs.EngineLine.{ShowsConflict}
-use Rattle.gp_machine.specs.Entries.{Entry, Log, committer_of, log_of, statement_at, statement_count, statement_version, versions_in}
-use Rattle.gp_machine.specs.Event.{published_rows}
 use Rattle.gp_machine.specs.HistorySpans as machine
-use Rattle.gp_machine.specs.Points.{OverNodes, OverRows, RunStop, run_stop}
-use Rattle.gp_machine.specs.Reading.{Seen}
 use Rattle.gp_machine.specs.Replaying as m
-use Rattle.gp_machine.specs.Replaying.{Replay, first_stop, rerun, version_stop}
-use Rattle.gp_machine.specs.ReplayForms.{CommitsInOrder, upto_version}
-use Rattle.gp_machine.specs.Represents.{Kept, Overlay, RepresentsActive, kept_start}
-use Rattle.gp_machine.specs.State.{Active, with_value}
-use Rattle.gp_log.specs.Parameters.{parameters}
-use Rattle.gp_log.specs.LogFacts.{tables_in}
+use Rattle.gp_machine.specs.Represents.{Kept, kept_start}
+use Rattle.gp_machine.specs.State.{with_value}
 use Rattle.gp_whatif.specs.Remade.{HasRun, StopsAt, made_upto, seen_upto}
 use Rattle.gp_whatif.specs.Replays.{IsMade, IsReplayable, Stops, stop_upto}
 use Rattle.gp_whatif.specs.declared.error.ReplayStop.{ReplayStop}
 use Rattle.gp_whatif.specs.declared.error.ReplayStop.TheVariants as code
 use Rattle.gp_whatif.proofs.BeyondLemmas.{seen_beyond}
 use Rattle.gp_whatif.proofs.RunLemmas.{active_at, apart, held, history, over_at, over_nodes, over_rows, overlay_of, represents, spans_of, stop_stays, whole}
-use Rattle.gp_log.proofs.KeptSessions.{commits_in_order}
 
 no_spans : (versions : List Versions) (place : ℕ) → length versions ≤ place → (table_at place versions).spans ≡ []
 no_spans versions place high = ap (λ (table : Versions). table.spans) (get_or-eq_default versions no_table high)

@@ -1,16 +1,7 @@
 -- The statements of a log that writes tables of a catalogue.
-use Rattle.std.proofs.Common.{◌≡◌, ℕ, suc, Bool, true, false, cond, List, [], ◌∷◌, length, subst, Some}
-use Rattle.std.specs.List.{list_all}
-use Rattle.std.specs.Prelude.{◌&&◌, ◌==◌}
-use Rattle.gp_base.specs.declared.table.Table.{Table}
-use Rattle.gp_algebra.specs.Fitting.{branches_fit, cond_fits, is_countable, is_there, row_fits, set_fits, statement_fits}
-use Rattle.gp_algebra.specs.Statements.{width_of}
-use Rattle.gp_algebra.specs.Statements.{Statement, insert, insert_select, update, delete, read}
-use Rattle.gp_machine.specs.Entries.{Entry, Created, Began, Ran, Committed, Ended, statement_at, statement_count}
-use Rattle.gp_machine.specs.CheckedTargets.{HasTarget}
+use Rattle.gp_whatif.proofs.Prelude.{◌≡◌, ℕ, suc, Bool, true, false, cond, List, [], ◌∷◌, length, subst, Some, list_all, ◌&&◌, ◌==◌, Table, branches_fit, cond_fits, is_countable, is_there, row_fits, set_fits, statement_fits, width_of, Statement, insert, insert_select, update, delete, read, Entry, Created, Began, Ran, Committed, Ended, statement_at, statement_count, HasTarget, and_parts, ltb-true, same_Some}
 use Rattle.gp_whatif.specs.Replays.{WritesTables}
-use Rattle.std.proofs.lemmas.Bool.{and_parts, ltb-true}
-use Rattle.std.proofs.lemmas.Option.{none-some, same_Some}
+use Rattle.std.proofs.lemmas.Option.{none-some}
 
 -- a statement that fits writes a table that is there
 pub fits_target : (tables : List Table) (statement : Statement) → statement_fits tables statement ≡ true → HasTarget (length tables) statement

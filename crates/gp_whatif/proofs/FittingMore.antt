@@ -1,33 +1,19 @@
 -- What the check passes on the tables before a line fits all tables of the log.
-use Rattle.std.proofs.Common.{◌≡◌, ℕ, Bool, true, false, cond, List, [], ◌∷◌, ◌++◌, map, refl, sym, ap, ◌∙◌, subst}
-use Rattle.std.proofs.lemmas.Bool.{and_parts}
-use Rattle.std.proofs.lemmas.List.{append-nil}
+use Rattle.gp_whatif.proofs.Prelude.{◌≡◌, ℕ, Bool, true, false, cond, List, [], ◌∷◌, ◌++◌, map, refl, sym, ap, ◌∙◌, subst, and_parts, append-nil, list_all, Result, Ok, Err, Refusal, Table, Command, LogChange, statement_fits, Statement, checked, first_refusal, accepted, Began, Committed, Created, Ended, Entry, Ran, parameters, tables_in, Logged, log_view, Stop}
 use Rattle.std.proofs.lemmas.List.Folds.{list_all-append}
-use Rattle.std.specs.List.{list_all}
-use Rattle.std.specs.Prelude.{IfOk, Result, Ok, Err}
-use Rattle.gp_base.specs.declared.refusal.Refusal.{Refusal}
-use Rattle.gp_base.specs.declared.table.Table.{Table}
+use Rattle.std.specs.Prelude.{IfOk}
 use Rattle.gp_grammar.specs.Laws.{has_statement, have_statements}
 use Rattle.gp_grammar.specs.Syntax as y
-use Rattle.gp_grammar.specs.Syntax.{Command, LogChange, is_statement}
-use Rattle.gp_algebra.specs.Fitting.{statement_fits}
-use Rattle.gp_algebra.specs.Statements.{Statement}
+use Rattle.gp_grammar.specs.Syntax.{is_statement}
 use Rattle.gp_algebra.proofs.FittingMore.{statement_more}
-use Rattle.gp_check.specs.Checking.{checked}
-use Rattle.gp_check.specs.Faults.{first_refusal}
 use Rattle.gp_check.specs.Meaning.{meant_statement}
 use Rattle.gp_check.specs.Valid.{change_is_valid, changes_are_valid, is_valid, table_is_valid, tables_are_valid}
-use Rattle.gp_check.proofs.FittingLemmas.{accepted, fits}
-use Rattle.gp_machine.specs.Entries.{Began, Committed, Created, Ended, Entry, Ran}
-use Rattle.gp_log.specs.Parameters.{parameters}
-use Rattle.gp_log.specs.LogFacts.{tables_in}
-use Rattle.gp_log.specs.Logs.{Logged, log_view}
+use Rattle.gp_check.proofs.FittingLemmas.{fits}
 use Rattle.gp_whatif.specs.Changed.{changed, changed_log, is_at, is_step_of, lines_for, spread, tables_at_end, tables_before}
 use Rattle.gp_whatif.specs.ChangedForms.{AllFit, CheckFits, ChecksFit}
 use Rattle.gp_whatif.specs.Changing.{Changes}
 use Rattle.gp_whatif.specs.Remaking as r
 use Rattle.gp_whatif.specs.Replays.{IsReplayable}
-use Rattle.gp_base.specs.declared.stop.Stop.{Stop}
 use Rattle.gp_whatif.proofs.ChangedLemmas.{spread_same}
 use Rattle.gp_whatif.proofs.ReplayableLemmas.{change_tables, changes_replayable}
 

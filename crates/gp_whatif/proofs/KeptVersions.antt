@@ -1,31 +1,13 @@
 -- Without a statement of the transaction that made a version, the log makes the versions before it as it did.
-use Rattle.std.proofs.Common.{◌≡◌, ◌≢◌, ℕ, zero, suc, ◌+◌, ◌<◌, ◌≤◌, Bool, true, false, cond, List, [], ◌∷◌, map, length, Option, Some, refl, sym, ap, ◌∙◌, subst, arith, unwrap_or}
-use Rattle.std.specs.Prelude.{◌==◌, ◌&&◌, nat_lt, Ok}
-use Rattle.std.specs.Option.{option_map_or, option_or}
-use Rattle.std.proofs.lemmas.Bool.{and_parts, eqb-true, false≢true, ne_eqb}
-use Rattle.std.proofs.lemmas.Option.{same_Some}
-use Rattle.gp_base.specs.Annotated.{Environment, unannotated}
-use Rattle.gp_base.specs.declared.table.Table.{Table}
+use Rattle.gp_whatif.proofs.Prelude.{◌≡◌, ◌≢◌, ℕ, zero, suc, ◌+◌, ◌<◌, ◌≤◌, Bool, true, false, cond, List, [], ◌∷◌, map, length, Option, Some, refl, sym, ap, ◌∙◌, subst, arith, ◌==◌, ◌&&◌, nat_lt, Ok, option_or, and_parts, eqb-true, false≢true, ne_eqb, same_Some, Environment, unannotated, Table, Command, Statement, Versions, with_bases, least_conflict, Entry, Created, Began, Ran, Committed, Ended, Log, committer_of, log_of, statement_at, statement_count, statement_version, versions_in, published_rows, run_stop, statement_stop, statement_refusal, transaction_refusal, Seen, wrote_by, Replay, first_stop, replay_stop, replayed, rerun, version_stop, replayed_spans, refreshed, run, run_before, stepped, parameters, tables_in, KeepsSessions}
+use Rattle.std.proofs.Common.{unwrap_or}
+use Rattle.std.specs.Option.{option_map_or}
 use Rattle.gp_grammar.specs.Syntax as y
-use Rattle.gp_grammar.specs.Syntax.{Command}
-use Rattle.gp_algebra.specs.Statements.{Statement}
-use Rattle.gp_versions.specs.Spans.{Versions}
 use Rattle.gp_machine.proofs.HeldPoints.{version_is}
-use Rattle.gp_machine.specs.Bases.{with_bases}
-use Rattle.gp_machine.specs.Conflicts.{least_conflict}
-use Rattle.gp_machine.specs.Entries.{Entry, Created, Began, Ran, Committed, Ended, Log, begin_version, committer_of, is_begin, is_commit, is_of, is_read_committed, is_statement, level_of, log_of, statement_at, statement_count, statement_of, statement_version, transaction_of, version_of, versions_in}
-use Rattle.gp_machine.specs.Event.{published_rows}
+use Rattle.gp_machine.specs.Entries.{begin_version, is_begin, is_commit, is_of, is_read_committed, is_statement, level_of, statement_of, transaction_of, version_of}
 use Rattle.gp_machine.specs.HistorySpans.{spans_of}
-use Rattle.gp_machine.specs.Points.{run_stop, statement_stop}
-use Rattle.gp_machine.specs.Questions.{statement_refusal, transaction_refusal}
-use Rattle.gp_machine.specs.Reading.{Seen, wrote_by}
-use Rattle.gp_machine.specs.Replaying.{Replay, first_stop, remade, replay_stop, replayed, rerun, run_written, version_stop}
-use Rattle.gp_machine.specs.ReplayForms.{replayed_spans}
-use Rattle.gp_machine.specs.Runs.{refreshed, run, run_before, stepped}
+use Rattle.gp_machine.specs.Replaying.{remade, run_written}
 use Rattle.gp_log.proofs.KeptSessions.{maker_version}
-use Rattle.gp_log.specs.Parameters.{parameters}
-use Rattle.gp_log.specs.LogFacts.{tables_in}
-use Rattle.gp_log.specs.Sessions.{KeepsSessions}
 use Rattle.gp_whatif.specs.Changed.{changed_log, dropped_command, dropped_statement, is_at, spread, with_other}
 use Rattle.gp_whatif.specs.Replays.{IsMade, stop_upto}
 use Rattle.gp_whatif.proofs.ReplayableLemmas.{changes_tables, one_change, put}

@@ -1,19 +1,8 @@
 -- What a change comes to: the refusal of the log, that of the check, or the changed log.
-use Rattle.std.proofs.Common.{◌≡◌, ℕ, List, [], ◌∷◌, map, Option, None, sym, ap, ◌∙◌, subst}
-use Rattle.std.specs.Prelude.{Result, Ok, Err}
-use Rattle.std.specs.Option.{option_or}
-use Rattle.gp_base.specs.declared.refusal.Refusal.{Refusal}
+use Rattle.gp_whatif.proofs.Prelude.{◌≡◌, ℕ, List, [], ◌∷◌, map, Option, None, sym, ap, ◌∙◌, subst, Result, Ok, Err, option_or, Refusal, Command, LogChange, Statement, checked, Entry, statement_refusal, transaction_refusal, parameters, Logged, Stop}
 use Rattle.gp_grammar.specs.Syntax as y
-use Rattle.gp_grammar.specs.Syntax.{Command, LogChange}
-use Rattle.gp_algebra.specs.Statements.{Statement}
-use Rattle.gp_check.specs.Checking.{checked}
-use Rattle.gp_machine.specs.Entries.{Entry}
-use Rattle.gp_machine.specs.Questions.{statement_refusal, transaction_refusal}
-use Rattle.gp_log.specs.Parameters.{parameters}
-use Rattle.gp_log.specs.Logs.{Logged}
 use Rattle.gp_whatif.specs.Changed.{all_changed, changed, changed_log, lines_for, rewritten, spread, steps_refusal, tables_at_end, tables_before, with_added, with_other}
 use Rattle.gp_whatif.specs.Changing.{Changes}
-use Rattle.gp_base.specs.declared.stop.Stop.{Stop}
 use Rattle.gp_base.specs.declared.stop.Stop.TheVariants.{NoMemory, Refused}
 
 abbrev IsSame : Result (List Entry) Refusal → Result (List Entry) Refusal → Type 0

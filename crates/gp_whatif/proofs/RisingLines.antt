@@ -1,17 +1,9 @@
 -- The lines of a changed log rise.
-use Rattle.std.proofs.Common.{◌≡◌, ℕ, suc, ◌+◌, ◌*◌, ◌<◌, Bool, true, false, cond, List, [], ◌∷◌, filter, length, map, refl, sym, ap, ◌∙◌, subst, arith, ◌⊎◌, inl, inr}
-use Rattle.std.specs.Prelude.{◌==◌, Result, Ok, Err}
-use Rattle.std.specs.Option.{option_or}
-use Rattle.std.proofs.lemmas.Bool.{eq-eqb, eqb-true}
+use Rattle.gp_whatif.proofs.Prelude.{◌≡◌, ℕ, suc, ◌+◌, ◌*◌, ◌<◌, Bool, true, false, cond, List, [], ◌∷◌, filter, length, map, refl, sym, ◌∙◌, subst, arith, ◌==◌, Result, Ok, Err, option_or, eq-eqb, eqb-true, Refusal, Command, LogChange, Statement, Entry, Created, Began, Ran, Committed, Ended, line_of, session_of, Parameters, statement_refusal, transaction_refusal, IsLog}
+use Rattle.std.proofs.Common.{◌⊎◌, inl, inr}
 use Rattle.std.proofs.lemmas.Nat.{mul-add-lt}
-use Rattle.gp_base.specs.declared.refusal.Refusal.{Refusal}
 use Rattle.gp_grammar.specs.Syntax as y
-use Rattle.gp_grammar.specs.Syntax.{Command, LogChange}
-use Rattle.gp_algebra.specs.Statements.{Statement}
-use Rattle.gp_machine.specs.Entries.{Entry, Created, Began, Ran, Committed, Ended, line_of, session_of}
-use Rattle.gp_machine.specs.Parameters.{Parameters}
-use Rattle.gp_machine.specs.Questions.{statement_refusal, transaction_refusal}
-use Rattle.gp_log.specs.Discipline.{IsLog, last_line}
+use Rattle.gp_log.specs.Discipline.{last_line}
 use Rattle.gp_whatif.specs.Changed.{adds, all_changed, changed, changed_log, dropped_command, dropped_of, dropped_statement, is_at, is_step_of, lines_for, spread, steps_refusal, tables_at_end, tables_before, with_added, with_other}
 use Rattle.gp_whatif.specs.ChangedForms.{AreLines, LinesRise}
 use Rattle.gp_whatif.proofs.ReplayableLemmas.{put}

@@ -1,15 +1,11 @@
 -- A transaction that runs again sees what it has read, and has written what the history machine says.
-use Rattle.std.proofs.Common.{◌≡◌, ℕ, zero, suc, ◌+◌, ◌<◌, ◌≤◌, Bool, true, false, cond, List, length, Option, Some, None, refl, sym, ap, ◌∙◌, subst, arith, ⊎_elim}
-use Rattle.std.specs.Prelude.{◌==◌}
-use Rattle.std.specs.Option.{option_or}
-use Rattle.gp_base.specs.Annotated.{Database, unannotated}
+use Rattle.gp_whatif.proofs.Prelude.{◌≡◌, ℕ, zero, suc, ◌+◌, ◌<◌, ◌≤◌, Bool, true, false, cond, List, length, Option, Some, None, refl, sym, ap, ◌∙◌, subst, arith, ◌==◌, option_or, Database, unannotated, Written, step, Statement, read, Versions, rows_at, Writes, table_at, view_at, writes_at, with_bases, Entry, Log, committer_of, log_of, statement_at, statement_count, statement_version, versions_in, OverNodes, OverRows, RunStop, run_stop, statement_stop, wrote_by, start_by, Replay, CommitsInOrder, upto_version, Overlay, RepresentsActive, run_before, stepped, Active, parameters, tables_in, commits_in_order, eqb-true}
+use Rattle.std.proofs.Common.{⊎_elim}
 use Rattle.gp_base.specs.declared.row_id.TheConstants.{MAX_NODES}
 use Rattle.gp_base.specs.Identities.{Identity}
-use Rattle.gp_algebra.specs.Effects.{Written, step, wrote, is_over_rows, is_over_nodes}
-use Rattle.gp_algebra.specs.Statements.{Statement, read}
+use Rattle.gp_algebra.specs.Effects.{wrote, is_over_rows, is_over_nodes}
 use Rattle.gp_base.specs.declared.limit.TheConstants.{MAX_TABLE_ROWS}
 use Rattle.gp_versions.specs.Commits.{AreBelow}
-use Rattle.gp_versions.specs.Spans.{Versions, rows_at}
 use Rattle.gp_versions.specs.TableSpans.{AreWhole, NoOverlap}
 use Rattle.gp_versions.specs.declared.span.Span.{Span}
 use Rattle.gp_txn.specs.Applying.{Wrote, has_too_many_nodes, has_too_many_rows}
@@ -17,7 +13,7 @@ use Rattle.gp_txn.specs.Bases.{base_after, base_of, refreshed}
 use Rattle.gp_txn.proofs.UnwrittenLemmas.{unwritten-base, unwritten-is, unwritten-view}
 use Rattle.gp_txn.specs.Overlay as txn
 use Rattle.gp_txn.specs.Overlay.{rows_below, view_rows}
-use Rattle.gp_txn.specs.Transactions.{AreOthers, AreThere, HoldsOthers, IsUnwritten, Writes, database_below, has_written, overlay_at, table_at, view_at, writes_at}
+use Rattle.gp_txn.specs.Transactions.{AreOthers, AreThere, HoldsOthers, IsUnwritten, database_below, has_written, overlay_at}
 use Rattle.gp_txn.specs.declared.overlay.TableWrites.{TableWrites}
 use Rattle.gp_machine.proofs.ActiveLemmas.{IsOver}
 use Rattle.gp_machine.proofs.BaseLemmas.{base_more}
@@ -25,24 +21,11 @@ use Rattle.gp_machine.proofs.OverlayLemmas.{shown_at}
 use Rattle.gp_machine.proofs.ReplayLemmas.{before_again, history_made}
 use Rattle.gp_machine.proofs.SpanCommit.{others_spans}
 use Rattle.gp_machine.proofs.SpanLaws.{plain_spans_rows, spans_apart, spans_below, spans_whole}
-use Rattle.gp_machine.specs.Bases.{with_bases}
-use Rattle.gp_machine.specs.Entries.{Entry, Log, committer_of, log_of, statement_at, statement_count, statement_version, versions_in}
 use Rattle.gp_machine.specs.Histories.{IsHistory}
-use Rattle.gp_machine.specs.Points.{OverNodes, OverRows, RunStop, run_stop, statement_stop}
-use Rattle.gp_machine.specs.Reading.{wrote_by}
-use Rattle.gp_machine.specs.ReadBy.{start_by}
-use Rattle.gp_machine.specs.Replaying.{Replay}
-use Rattle.gp_machine.specs.ReplayForms.{CommitsInOrder, upto_version}
 use Rattle.gp_machine.specs.Represents as machine
-use Rattle.gp_machine.specs.Represents.{Overlay, RepresentsActive, base_among}
-use Rattle.gp_machine.specs.Runs.{run_before, stepped}
-use Rattle.gp_machine.specs.State.{Active}
-use Rattle.gp_log.specs.Parameters.{parameters}
-use Rattle.gp_log.specs.LogFacts.{tables_in}
+use Rattle.gp_machine.specs.Represents.{base_among}
 use Rattle.gp_whatif.specs.Remade.{HasRun, Ran, made_upto, seen_upto}
 use Rattle.gp_whatif.specs.Replays.{IsMade, IsReplayable}
-use Rattle.gp_log.proofs.KeptSessions.{commits_in_order}
-use Rattle.std.proofs.lemmas.Bool.{eqb-true}
 
 -- ---- the writes of a transaction, as the history machine sees them
 

@@ -59,13 +59,13 @@ tables_at_end t = at_newest (λ entry older. is_step_of t entry) (λ entry older
 -- statement k by another
 abbrev pub with_other : ℕ → ℕ → (Command → Command) → (Statement → Statement) → List Entry → List Entry
 with_other t k command statement [] = []
-with_other t k command statement (Ran line session own u now ∷ older) =
-    if is_at t k u older then Ran line session (command own) u (statement now) ∷ older else Ran line session own u now ∷ with_other t k command statement older
+with_other t k command statement (Ran line session sent u now ∷ older) =
+    if is_at t k u older then Ran line session (command sent) u (statement now) ∷ older else Ran line session sent u now ∷ with_other t k command statement older
 with_other t k command statement (entry ∷ older) = entry ∷ with_other t k command statement older
 
 -- an entry that is a statement of a transaction is dropped
 abbrev pub dropped_of : ℕ → Entry → Entry
-dropped_of t (Ran line session own u now) = if u == t then Ran line session (dropped_command own) u (dropped_statement now) else Ran line session own u now
+dropped_of t (Ran line session sent u now) = if u == t then Ran line session (dropped_command sent) u (dropped_statement now) else Ran line session sent u now
 dropped_of t entry = entry
 
 -- one statement more, on the line behind the entry before it and in its session
@@ -79,7 +79,7 @@ module _ (parameters : Parameters) where
   module _ (entries : List Entry) where
     -- by the refusal of the log, and by the check, which gives the statement that is put into the log
     abbrev pub rewritten : {A : Type 0} → Option Refusal → Result A Refusal → (A → List Entry) → Result (List Entry) Refusal
-    rewritten refusal checked put = option_map_or Err refusal (result_map_both put (λ own. own) checked)
+    rewritten refusal checked put = option_map_or Err refusal (result_map_both put (λ error. error) checked)
 
     abbrev pub steps_refusal : ℕ → Option Refusal
     steps_refusal t = if nat_le parameters.steps (statement_count t entries) then Some (E14 limit.Steps) else None
@@ -92,7 +92,7 @@ module _ (parameters : Parameters) where
     changed (y.drop_all t) = rewritten (transaction_refusal t entries) (Ok (tt {0})) (λ nothing. map (dropped_of t) entries)
     changed (y.replace t k command) =
         rewritten (option_or (transaction_refusal t entries) (statement_refusal t k entries)) (parameters.checked (tables_before t k entries) command)
-        (λ statement. with_other t k (λ own. command) (λ own. statement) entries)
+        (λ statement. with_other t k (λ replaced. command) (λ replaced. statement) entries)
     changed (y.add t command) =
         rewritten (option_or (transaction_refusal t entries) (steps_refusal t)) (parameters.checked (tables_at_end t entries) command)
         (λ statement. with_added t command statement entries)

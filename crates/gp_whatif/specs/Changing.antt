@@ -29,7 +29,7 @@ IsRefused (Err refusal) expected = expected ≡ Some refusal
 
 -- another command and statement in the place of its own
 abbrev pub edited : Bool → (Command → Command) → (Statement → Statement) → m.Entry → m.Entry
-edited true command statement (m.Ran line session own t now) = m.Ran line session (command own) t (statement now)
+edited true command statement (m.Ran line session sent t now) = m.Ran line session (command sent) t (statement now)
 edited true command statement entry = entry
 edited false command statement entry = entry
 

@@ -1,6 +1,6 @@
 //! Changed logs: statements of transactions that committed are dropped, replaced and added, one change after another.
 
-ghost use Rattle.std.specs.Prelude.{◌≡◌, ◌<◌, ◌≤◌, ◌+◌, ◌++◌, ◌∷◌, [], ℕ, true, IfOk, OnOk, Ok, filter, length, map, suc, take};
+ghost use Rattle.std.specs.Prelude.{◌≡◌, ◌<◌, ◌≤◌, ◌+◌, ◌∷◌, [], ℕ, true, IfOk, OnOk, Ok, filter, length, map, suc, take};
 ghost use Rattle.gp_algebra.specs.Views.{statement_view};
 ghost use Rattle.gp_check.specs.Checking.{checked};
 ghost use Rattle.gp_check.specs.Valid.{changes_are_valid, tables_are_valid};
@@ -271,8 +271,8 @@ fn copy_replaced(
     stmt: &Rc<Stmt>,
 ) -> Result<Entry, NoMemory>
     ensures view { IfOk result (λ copy. entry_view copy
-        ≡ edited (is_own t k entry.now) (λ own. command_view command.now.value)
-        (λ own. statement_view stmt.now.value) (entry_view entry.now)) }
+        ≡ edited (is_own t k entry.now) (λ replaced. command_view command.now.value)
+        (λ replaced. statement_view stmt.now.value) (entry_view entry.now)) }
     ensures same { IfOk result (λ copy. SameStep copy entry.now) }
 {
     match entry.what {
@@ -320,8 +320,8 @@ fn with_replaced(
     command: &Rc<Command>,
     stmt: &Rc<Stmt>,
 ) -> Result<Log, NoMemory>
-    ensures { IfOk result (λ new. entries new ≡ with_other t k (λ own. command_view command.now.value)
-        (λ own. statement_view stmt.now.value) (entries log.now)) }
+    ensures { IfOk result (λ new. entries new ≡ with_other t k (λ replaced. command_view command.now.value)
+        (λ replaced. statement_view stmt.now.value) (entries log.now)) }
 {
     log.bounds();
     let mut new = Log::new(alloc);

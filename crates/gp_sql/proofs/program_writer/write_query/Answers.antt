@@ -19,7 +19,7 @@ returns c =
     let due = c.as_slice-due.result.now in
     let before = c.push_steps.new.before.items in
     let later = c.push_query.new.before.items in
-    let own = c.push_query.new.own.items in
+    let body = c.push_query.new.body.items in
     let first =
     subst (λ (all : List (Step PQuery)). WritesSteps tables (map step_view all) known c.in_ok-n.n c.new-before.result.items before) c.as_slice.ensures c.in_ok-n.ensures in
     let writes = subst (λ (start : List ℕ). WritesSteps tables (map step_view steps) known c.in_ok-n.n start before) c.new-before.ensures.items first in
@@ -28,12 +28,12 @@ returns c =
     ∙ c.in_ok-due.ensures
     ∙ ap (λ (known : List StepType). known_types (query_types tables (types_after known no_types) last)) c.as_slice-2.ensures in
     let second =
-    subst (λ (known : List StepType). Writes tables (translated tables (types_after known no_types) due last c.in_ok-n.n) c.in_ok-push_query.field-0 before later c.new-own.result.items own)
+    subst (λ (known : List StepType). Writes tables (translated tables (types_after known no_types) due last c.in_ok-n.n) c.in_ok-push_query.field-0 before later c.new-body.result.items body)
     c.as_slice-3.ensures c.in_ok-push_query.ensures in
-    let own-writes =
-    subst (λ (start : List ℕ). Writes tables (translated tables (types_after known no_types) due last c.in_ok-n.n) c.in_ok-push_query.field-0 before later start own)
-    c.new-own.ensures.items second in
+    let body-writes =
+    subst (λ (start : List ℕ). Writes tables (translated tables (types_after known no_types) due last c.in_ok-n.n) c.in_ok-push_query.field-0 before later start body)
+    c.new-body.ensures.items second in
     let text =
     (λ i. assembled (c.deref.ensures.value i) (c.deref-2.ensures.value i))
-    ∙ whole-text tables (map step_view steps) last known due c.in_ok-n.n c.in_ok-push_query.field-0 before later own writes types own-writes in
+    ∙ whole-text tables (map step_view steps) last known due c.in_ok-n.n c.in_ok-push_query.field-0 before later body writes types body-writes in
     subst (λ (z : List ℕ). IfOk c.assembled.result (λ text. text.items ≡ z)) text c.assembled.ensures

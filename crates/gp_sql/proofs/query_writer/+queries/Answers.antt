@@ -11,8 +11,8 @@ use Rattle.gp_sql.proofs.query_writer.+queries.Goals as goal
 pub push_numbered-returns : goal.push_numbered-returns
 push_numbered-returns t c =
     numbered-writes c.args.catalog.now (types_after c.args.steps.now no_types) c.args.in_publish c.is_materialized-materialized.result c.args.due.now (query_view c.args.query.now) c.args.n c.in_ok-n.n _
-    c.args.before.now.items c.push_query.new.before.items c.push_named.new.out.items c.new-own.result.items c.push_query.new.own.items c.deref.result.now
-    c.in_ok-n.ensures c.new-own.ensures.items c.in_ok-push_named.ensures c.is_materialized-materialized.ensures c.deref.ensures.value refl c.in_ok-next.ensures
+    c.args.before.now.items c.push_query.new.before.items c.push_named.new.out.items c.new-body.result.items c.push_query.new.body.items c.deref.result.now
+    c.in_ok-n.ensures c.new-body.ensures.items c.in_ok-push_named.ensures c.is_materialized-materialized.ensures c.deref.ensures.value refl c.in_ok-next.ensures
 
 pub push_publish-returns : goal.push_publish-returns
 push_publish-returns t c =
@@ -22,7 +22,7 @@ push_publish-returns t c =
 
 pub push_query-returns-in_ok-push_scanned-in-Scan : goal.push_query-returns-in_ok-push_scanned-in-Scan
 push_query-returns-in_ok-push_scanned-in-Scan t c =
-    subst (λ (query : Plain). Writes c.args.catalog.now (q.translated c.args.catalog.now (types_after c.args.steps.now no_types) c.args.due.now query c.args.n) c.args.n c.args.before.now.items c.args.before.now.items c.args.own.now.items c.push_scanned.new.out.items)
+    subst (λ (query : Plain). Writes c.args.catalog.now (q.translated c.args.catalog.now (types_after c.args.steps.now no_types) c.args.due.now query c.args.n) c.args.n c.args.before.now.items c.args.before.now.items c.args.body.now.items c.push_scanned.new.out.items)
     (sym (ap query_view c.in-Scan.is))
     (record { number = refl; named = sym (append-nil c.args.before.now.items); text = c.in_ok-push_scanned-in-Scan.ensures })
 
