@@ -48,17 +48,10 @@ module _ (programs : Programs) (dump : Dump) (state : State Monomial) (log : dum
   changed-any changes subject query = ap (λ (entries : List Entry). hypothetical.what_if_held programs entries changes subject query) log
 
   pub any-held : (question : y.Question) → answers.answer_to programs dump question ≡ answers.held_to programs state question
-  any-held (y.log t) = same (y.log t)
-  any-held (y.versions name) = same (y.versions name)
-  any-held y.transactions = same y.transactions
-  any-held (y.changes t k) = same (y.changes t k)
-  any-held (y.commit_changes t) = same (y.commit_changes t)
-  any-held (y.conflicts t) = same (y.conflicts t)
+  any-held (y.bare question) = same (y.bare question)
   any-held (y.history name cond) = same (y.history name cond)
   any-held (y.when query) =
       when-same _ _ asked-any dump.entries query ∙ ap (λ (entries : List Entry). when_answer (subjects.query_held programs state) entries query) log
-  any-held y.serial = same y.serial
-  any-held y.check = same y.check
   any-held (y.diff first second query) =
       diff-same _ _ _ _ (beside-any (are_mixed first second)) changed-any _ _ made dump.entries first second query
       ∙ ap (λ (entries : List Entry). diff_answer (cond (are_mixed first second) (subjects.query_held programs state) (subjects.query_held programs state)) (hypothetical.what_if_held programs state.entries) None entries first second query) log

@@ -29,8 +29,8 @@ use Rattle.gp_machine.proofs.Made.{same_equal}
 use Rattle.gp_machine.specs.SeenRows.{HaveDifferentIdentities, same_row}
 use Rattle.gp_ask.specs.ChangeForms.{by_identity, changed_text, changed_texts}
 use Rattle.gp_ask.specs.Keyed.{keyed_lines}
-use Rattle.gp_ask.proofs.ReenactedLemmas.{same-order}
 use Rattle.gp_ask.proofs.SpanLemmas.{permuted}
+use Rattle.gp_serial.proofs.RunningLemmas.{sorted_same}
 
 -- ---- different identities
 
@@ -105,7 +105,7 @@ pub texts-same : (name : List ℕ) (statement : Statement) (rows : List (Annotat
 texts-same name statement rows own moved different =
     by-rows name statement rows (different-moved moved (differ_map same_row same_row (reannotated forgotten) (λ row other. refl) own different))
     ∙ ap (flat_map (keyed_lines name statement))
-    (same-order (map by-identity rows) (map by-identity own) (permutations.permuted _ _ (through (mapped by-identity moved) (same_from _ _ (map-map by-identity (reannotated forgotten) own)))))
+    (sorted_same (map by-identity rows) (map by-identity own) (permutations.permuted _ _ (through (mapped by-identity moved) (same_from _ _ (map-map by-identity (reannotated forgotten) own)))))
     ∙ sym (by-rows name statement own different)
 
 -- ---- the rows that a statement changed

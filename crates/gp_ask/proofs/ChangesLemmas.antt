@@ -11,7 +11,7 @@ use Rattle.std.proofs.lemmas.Bool.{and_parts, leb-true, ltb-true}
 use Rattle.std.proofs.lemmas.Cmp.{int_ranked}
 use Rattle.std.proofs.lemmas.Int.{ints}
 use Rattle.std.proofs.lemmas.List.{drop_more, length-append}
-use Rattle.std.proofs.lemmas.Option.{get_or_from_slice_get, none-some, same_Some, slice_get_within}
+use Rattle.std.proofs.lemmas.Option.{get_or_from_slice_get, none-some, slice_get_within}
 use Rattle.gp_base.proofs.SmallLemmas.{all_weaker, none_parts, some_none}
 use Rattle.gp_base.specs.declared.refusal.Refusal.{Refusal}
 use Rattle.gp_base.specs.declared.refusal.Refusal.TheVariants.{E20, E21, E22}
@@ -40,9 +40,10 @@ use Rattle.gp_base.specs.declared.stop.Stop.TheVariants as stop
 use Rattle.gp_versions.specs.declared.span.Span.{Span}
 use Rattle.gp_versions.specs.Spans.{Versions}
 use Rattle.gp_dump.specs.Views.{tables_view}
-use Rattle.gp_ask.specs.declared.answered.Answered.TheVariants.{Changes, Refused}
+use Rattle.gp_ask.specs.declared.answered.Answered.TheVariants.{Lines, Refused}
+use Rattle.gp_ask.specs.declared.answered.Heading.TheVariants.{Changes}
 use Rattle.gp_ask.specs.ChangeForms.{by_identity, changed_text, changed_texts, changes_of, changes_to, commit_changes_to, dump_changes, if_any, table_changes, tables_texts, version_changes}
-use Rattle.gp_ask.specs.Changes.{span_texts, spans_texts}
+use Rattle.gp_ask.specs.Changes.{spans_texts}
 use Rattle.gp_ask.specs.Values.{unless_refused}
 use Rattle.gp_ask.specs.Asking.{table_spans}
 use Rattle.gp_ask.specs.Keyed.{as_identity, cells_of, identity_of, keyed_from, keyed_if, keyed_lines, sets_are_simple, shown_texts}
@@ -77,7 +78,7 @@ ranked p q less Less is = refl
 ranked p q less Equal is = let same : p ≡ q = cc in absurd (omega arith)
 ranked p q less Greater is = absurd (omega (arith, ints))
 
-rises : (p q : ℕ) → p < q → int_cmp (pos p) (pos q) ≡ Less
+pub rises : (p q : ℕ) → p < q → int_cmp (pos p) (pos q) ≡ Less
 rises p q less = ranked p q less (int_cmp (pos p) (pos q)) (int_ranked (pos p) (pos q) (int_cmp (pos p) (pos q)) refl)
 
 -- of two rows with places that rise, the keys compare as the identities do
@@ -164,8 +165,8 @@ module _ (t k : ℕ) (statement : Statement) where
   -- what the code finds, or what it is refused for
   module _ (name : List ℕ) (rows : List (Annotated (Unit {0}))) {X : Type 0} (view : X → List (List Cell)) where
     pub found-changes : (refusal : Option Refusal) (found : X) → Looks view (Ok found) (given refusal (map system_row rows))
-        → Changes (shown_texts name t k statement (view found)) ≡ table_changes name statement (given refusal (filter changed rows))
-    found-changes None found is = ap Changes (ap (shown_texts name t k statement) is ∙ shown_is name rows)
+        → Lines Changes (shown_texts name t k statement (view found)) ≡ table_changes name statement (given refusal (filter changed rows))
+    found-changes None found is = ap (Lines Changes) (ap (shown_texts name t k statement) is ∙ shown_is name rows)
     found-changes (Some refusal) found is = absurd is
 
     pub refused-changes : (refusal : Option Refusal) (own : Refusal) → Looks view (Err (stop.Refused own)) (given refusal (map system_row rows))
@@ -181,16 +182,6 @@ writes-target (insert_select table select) place is = refl
 writes-target (update table sets c) place is = refl
 writes-target (delete table c) place is = refl
 writes-target (read select) place is = absurd (none-some place is)
-
-there-by : (tables : List Table) (table place : ℕ) → is_there tables table ≡ true → Some table ≡ Some place → place < length tables
-there-by tables table place there is = subst (λ n. n < length tables) (same_Some table place is) (ltb-true table (length tables) there)
-
-pub target-there : (tables : List Table) (statement : Statement) (place : ℕ) → statement_fits tables statement ≡ true → target statement ≡ Some place → place < length tables
-target-there tables (insert table rows) place fit is = there-by tables table place (and_parts (is_there tables table) _ fit).0 is
-target-there tables (insert_select table select) place fit is = there-by tables table place (and_parts (is_there tables table) _ fit).0 is
-target-there tables (update table sets c) place fit is = there-by tables table place (and_parts (is_there tables table) _ fit).0 is
-target-there tables (delete table c) place fit is = there-by tables table place (and_parts (is_there tables table) _ fit).0 is
-target-there tables (read select) place fit is = absurd (none-some place is)
 
 pub sets-simple : (tables : List Table) (statement : Statement) → statement_fits tables statement ≡ true → sets_are_simple statement ≡ true
 sets-simple tables (insert table rows) fit = refl
@@ -239,7 +230,7 @@ module _ (entries : List Entry) (tables : List (List Span)) (t k : ℕ) (some : 
       ∙ ap (λ (found : Option ℕ). changes_of (tables_in entries) found statement (changed-by (suc (k - 1)))) (sym is)
 
   pub found-is : {X : Type 0} (view : X → List (List Cell)) (found : X) (name : List ℕ) → name ≡ name_at place (tables_in entries)
-      → Looks view (Ok found) (looked_answer parameters entries (table_spans tables) t (k - 1) statement) → Changes (shown_texts name t k statement (view found)) ≡ dump_changes own-dump t (k - 1) statement
+      → Looks view (Ok found) (looked_answer parameters entries (table_spans tables) t (k - 1) statement) → Lines Changes (shown_texts name t k statement (view found)) ≡ dump_changes own-dump t (k - 1) statement
   found-is view found name named looks = found-changes t k statement name own-rows view own-refusal found looks ∙ as-changes name named
 
   pub refused-is : {X : Type 0} (view : X → List (List Cell)) (own : Refusal) → Looks view (Err (stop.Refused own)) (looked_answer parameters entries (table_spans tables) t (k - 1) statement)
@@ -248,7 +239,7 @@ module _ (entries : List Entry) (tables : List (List Span)) (t k : ℕ) (some : 
       refused-changes t k statement (name_at place (tables_in entries)) own-rows view own-refusal own looks ∙ as-changes (name_at place (tables_in entries)) refl
 
 -- a SELECT changes nothing
-pub none-changed : (dump : Dump) (t k : ℕ) (statement : Statement) → None ≡ target statement → Changes [] ≡ dump_changes dump t k statement
+pub none-changed : (dump : Dump) (t k : ℕ) (statement : Statement) → None ≡ target statement → Lines Changes [] ≡ dump_changes dump t k statement
 none-changed dump t k statement is =
     ap (λ (found : Option ℕ). changes_of (tables_in dump.entries) found statement
     (given (looked_refusal parameters dump.entries (table_spans dump.tables) t k statement) (changed_rows unannotated t (suc k) statement (run_before unannotated (log_of dump.entries) t k (as_of unannotated (table_spans dump.tables)))))) is
@@ -261,7 +252,7 @@ known-by t entries false is none = absurd (some_none (E20 t) none)
 pub known-changed : (t k : ℕ) (entries : List Entry) → changes_refusal t k entries ≡ None → is_known t entries ≡ true
 known-changed t k entries none = known-by t entries (is_known t entries) refl (none_parts (unknown_refusal t entries) (statement_refusal t k entries) none).0
 
-numbered-by : (t k : ℕ) (entries : List Entry) (b : Bool) → (nat_lt 0 k && nat_le k (statement_count t entries)) ≡ b → cond b None (Some (E22 t (statement_count t entries))) ≡ None
+pub numbered-by : (t k : ℕ) (entries : List Entry) (b : Bool) → (nat_lt 0 k && nat_le k (statement_count t entries)) ≡ b → cond b None (Some (E22 t (statement_count t entries))) ≡ None
     → (0 < k) × (k ≤ statement_count t entries)
 numbered-by t k entries true is none =
     let parts = and_parts (nat_lt 0 k) (nat_le k (statement_count t entries)) is in (ltb-true 0 k parts.0, leb-true k (statement_count t entries) parts.1)

@@ -28,7 +28,8 @@ use Rattle.gp_versions.proofs.SameLemmas.{same-sym}
 use Rattle.gp_versions.specs.declared.span.Span.{Span}
 use Rattle.gp_versions.specs.Spans.{row_of, span_cmp, spans_at}
 use Rattle.gp_versions.specs.TableSpans.{AreOfDifferentRows}
-use Rattle.gp_ask.specs.declared.answered.Answered.TheVariants.{Changes}
+use Rattle.gp_ask.specs.declared.answered.Answered.TheVariants.{Lines}
+use Rattle.gp_ask.specs.declared.answered.Heading.TheVariants.{Changes}
 use Rattle.gp_ask.specs.Printed.{answer_to, held_to}
 use Rattle.gp_ask.specs.ChangeForms.{tables_texts, version_changes}
 use Rattle.gp_ask.specs.Changes.{history_writes, spans_texts, written_texts}
@@ -103,14 +104,14 @@ module _ (state : State Monomial) (history : IsHistory monomials (log_of state.e
       (λ table. different (suc version) table (omega (arith, within)))
       (λ table past. (none-beyond version table (omega (arith, within)) past, none-beyond (suc version) table (omega (arith, within)) past)) (written-once version within) (dump_of state).tables (listed state) (λ table below. in-order state beyond table)
 
-  version-changes : (found : Option ℕ) (t : ℕ) → version_of t state.entries ≡ found → version_changes (dump_of state) found ≡ option_map_or (history_writes state) found (Changes [])
+  version-changes : (found : Option ℕ) (t : ℕ) → version_of t state.entries ≡ found → version_changes (dump_of state) found ≡ option_map_or (history_writes state) found (Lines Changes [])
   version-changes None t is = refl
   version-changes (Some version) t is =
       let own = version_is t version state.entries is in
       let before : version - 1 ≡ own.earlier = omega (arith, own.is) in
-      ap (λ n. Changes (tables_texts n (tables_in state.entries) (dump_of state).tables)) own.is
-      ∙ ap Changes (version-lines own.earlier own.within)
-      ∙ (λ i. Changes (written_texts state.catalogue (state.written (sym own.is i)) (state.committed (sym before i)) (state.committed (sym own.is i))))
+      ap (λ n. Lines Changes (tables_texts n (tables_in state.entries) (dump_of state).tables)) own.is
+      ∙ ap (Lines Changes) (version-lines own.earlier own.within)
+      ∙ (λ i. Lines Changes (written_texts state.catalogue (state.written (sym own.is i)) (state.committed (sym before i)) (state.committed (sym own.is i))))
 
-  pub commits : (t : ℕ) → answer_to (dump_of state) (y.commit_changes t) ≡ held_to state (y.commit_changes t)
+  pub commits : (t : ℕ) → answer_to (dump_of state) (y.bare (y.commit_changes t)) ≡ held_to state (y.bare (y.commit_changes t))
   commits t = ap (unless_refused (transaction_refusal t state.entries)) (version-changes (version_of t state.entries) t refl)

@@ -54,6 +54,7 @@ use Rattle.gp_ask.proofs.IntervalLines.{sorted-map}
 use Rattle.gp_ask.proofs.MetLemmas.{later-writer, met-writer}
 use Rattle.gp_ask.proofs.OnceLemmas.{IsAmong, PassesFirst, kept-sorted, once, once-kept, once-map, once-without-all}
 use Rattle.gp_ask.proofs.RowLineLemmas.{first-lines, line-total, written-total}
+use Rattle.gp_versions.proofs.SameLemmas.{same-itself}
 
 abbrev Row : Type 0
 Row = Annotated (Unit {0})
@@ -95,14 +96,11 @@ module _ (among : Written → Bool) (table : ℕ) where
 abbrev pub is-among : List Written → Written → Bool
 is-among written pair = is_written pair.table pair.identity written
 
-same-itself : (id : Identity) → same_identity id id ≡ true
-same-itself id = same_identity-is id id ∙ ap is_eq (tied_itself identity_cmp_total id)
-
 -- with others
 abbrev with-more : (Written → Bool) → List Written → Written → Bool
 with-more among more pair = among pair || is-among more pair
 
-or-true : (a : Bool) → (a || true) ≡ true
+pub or-true : (a : Bool) → (a || true) ≡ true
 or-true true = refl
 or-true false = refl
 

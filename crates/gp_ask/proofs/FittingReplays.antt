@@ -14,8 +14,8 @@ use Rattle.gp_log.specs.LogFitting.{SpanFits}
 use Rattle.gp_reenact.specs.Travel.{no_table}
 use Rattle.gp_whatif.specs.Replays.{IsMade, IsReplayable}
 use Rattle.gp_serial.proofs.FittingReplays.{spans_made_fit}
+use Rattle.gp_dump.specs.Answerable.{IsAnswerable}
 use Rattle.gp_dump.specs.Views.{tables_view}
-use Rattle.gp_ask.specs.Answerable.{IsAnswerable}
 use Rattle.gp_ask.specs.Asking.{table_spans}
 use Rattle.gp_ask.specs.Replays.{dump_in}
 

@@ -15,6 +15,7 @@ use Rattle.gp_history.specs.Agreement.{occurrence}
 use Rattle.gp_semiring.specs.declared.listed.Listed.{Listed}
 use Rattle.gp_semiring.specs.Listing as code
 use Rattle.gp_ask.specs.Asking.{element_cmp, grouped, put_first}
+use Rattle.gp_base.proofs.OrderLemmas.{equal_from_is_eq}
 
 -- ---- an occurrence
 
@@ -46,18 +47,13 @@ one-joined : (element : Element Monomial) (groups : List Listed) → joined elem
 one-joined element [] = refl
 one-joined element (next ∷ others) = refl
 
-equal-is : (o : Ordering) → is_eq o ≡ true → o ≡ Equal
-equal-is Less is = absurd cc
-equal-is Equal is = refl
-equal-is Greater is = absurd cc
-
 -- a group, and one behind it of the same row
 same-joined : (cells : List Cell) (monomials : List Monomial) (element : Element Monomial) (groups : List Listed) → is_eq (row_cmp cells element.cells) ≡ true
     → joined cells (monomials ++ element.annotation ∷ []) groups ≡ joined cells monomials (put_first element groups)
 same-joined cells monomials element groups is = by groups
   where
     same : cells ≡ element.cells
-    same = exact_rows cells element.cells (equal-is (row_cmp cells element.cells) is)
+    same = exact_rows cells element.cells (equal_from_is_eq (row_cmp cells element.cells) is)
 
     first : (rest others : List Listed) (own : List Monomial) → cond (is_eq (row_cmp cells element.cells)) (group cells (monomials ++ own) ∷ others) rest ≡ group cells (monomials ++ own) ∷ others
     first rest others own = ap (λ b. cond b (group cells (monomials ++ own) ∷ others) rest) is

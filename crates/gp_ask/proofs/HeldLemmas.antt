@@ -61,15 +61,15 @@ use Rattle.gp_ask.proofs.IntervalLemmas.{when-same}
 use Rattle.gp_ask.proofs.MovedLemmas.{remaining_moved}
 use Rattle.gp_ask.proofs.ProvenanceLemmas.{same-list}
 use Rattle.gp_ask.proofs.QueryLemmas.{query-same}
-use Rattle.gp_ask.proofs.ReenactedLemmas.{same-order}
 use Rattle.gp_ask.proofs.ValueLemmas.{AreHeld, found_in}
 use Rattle.gp_ask.proofs.WitnessLemmas.{minimal_moved}
 use Rattle.gp_base.proofs.SmallLemmas.{map-map}
+use Rattle.gp_serial.proofs.RunningLemmas.{sorted_same}
 
 -- ---- answers that are alike
 
 alike : {M : Type 0} (found other : Result (List (Element M)) Refusal) → AreAlike found other → of_elements found ≡ of_elements other
-alike (Ok elements) (Ok others) same = ap Rows (same-order (cells_of elements) (cells_of others) (IsPermutation-map (λ element. element.cells) elements others same))
+alike (Ok elements) (Ok others) same = ap Rows (sorted_same (cells_of elements) (cells_of others) (IsPermutation-map (λ element. element.cells) elements others same))
 alike (Err refusal) (Err other) same = ap Refused same
 alike (Ok elements) (Err other) same = absurd same
 alike (Err refusal) (Ok others) same = absurd same
@@ -223,9 +223,9 @@ module _ (state : State Monomial) (spans-kept : (table : ℕ) → state_spans (f
   -- LOG and VERSIONS print the dump, and what would be with changes is told by the log. SAW, CHANGES and CONFLICTS tell what the machine held, of transactions whatever
   -- became of them, HISTORY of those that committed; WHEN is told by its answers.
   module _ (whole : tables_in state.entries ≡ state.catalogue) (sees : (t k : ℕ) (query : y.Query) → answer_to (dump_of (forgetting state)) (y.ask (y.saw t k) query) ≡ held_to state (y.ask (y.saw t k) query))
-      (alters : (t k : ℕ) → answer_to (dump_of (forgetting state)) (y.changes t k) ≡ held_to state (y.changes t k))
-      (commits : (t : ℕ) → answer_to (dump_of state) (y.commit_changes t) ≡ held_to state (y.commit_changes t))
-      (meets : (t : ℕ) → answer_to (dump_of (forgetting state)) (y.conflicts t) ≡ held_to state (y.conflicts t))
+      (alters : (t k : ℕ) → answer_to (dump_of (forgetting state)) (y.bare (y.changes t k)) ≡ held_to state (y.bare (y.changes t k)))
+      (commits : (t : ℕ) → answer_to (dump_of state) (y.bare (y.commit_changes t)) ≡ held_to state (y.bare (y.commit_changes t)))
+      (meets : (t : ℕ) → answer_to (dump_of (forgetting state)) (y.bare (y.conflicts t)) ≡ held_to state (y.bare (y.conflicts t)))
       (lives : (name : y.Bytes) (cond : Option y.Term) → answer_to (dump_of (forgetting state)) (y.history name cond) ≡ held_to state (y.history name cond))
       (asks : (how : y.How) (point : y.Point) (query : y.Query) → answer_to (dump_of (forgetting state)) (y.ask (y.of_state how point) query) ≡ held_to state (y.ask (y.of_state how point) query))
       (made : unmade_refusal (dump_of (forgetting state)) ≡ None) (remade : replayed_dump state.entries ≡ dump_of (forgetting state)) (same : difference (dump_of (forgetting state)) ≡ None) where
@@ -242,17 +242,17 @@ module _ (state : State Monomial) (spans-kept : (table : ℕ) → state_spans (f
     beside false = of-subject
 
     pub held : (question : y.Question) → answer_to (dump_of (forgetting state)) question ≡ held_to state question
-    held y.transactions = refl
-    held (y.log t) = refl
-    held (y.versions name) =
-        ap (λ (dump : Dump). answer_to dump (y.versions name)) dump-same ∙ ap (λ (catalogue : List Table). versions_answer name (dump_of state).tables (place_of name catalogue)) whole
-    held (y.changes t k) = alters t k
-    held (y.commit_changes t) = ap (λ (dump : Dump). answer_to dump (y.commit_changes t)) dump-same ∙ commits t
-    held (y.conflicts t) = meets t
+    held (y.bare y.transactions) = refl
+    held (y.bare (y.log t)) = refl
+    held (y.bare (y.versions name)) =
+        ap (λ (dump : Dump). answer_to dump (y.bare (y.versions name))) dump-same ∙ ap (λ (catalogue : List Table). versions_answer name (dump_of state).tables (place_of name catalogue)) whole
+    held (y.bare (y.changes t k)) = alters t k
+    held (y.bare (y.commit_changes t)) = ap (λ (dump : Dump). answer_to dump (y.bare (y.commit_changes t))) dump-same ∙ commits t
+    held (y.bare (y.conflicts t)) = meets t
     held (y.history name cond) = lives name cond
     held (y.when query) = when-same (query_to (dump_of (forgetting state))) (query_held state) of-subject state.entries query
-    held y.serial = ap serial_answer dump-same
-    held y.check = ap Checked same
+    held (y.bare y.serial) = ap serial_answer dump-same
+    held (y.bare y.check) = ap Checked same
     held (y.diff first second query) =
         diff-same (cond (are_mixed first second) (query_to (replayed_dump state.entries)) (query_to (dump_of (forgetting state)))) (cond (are_mixed first second) (query_held state) (query_held state))
         (what_if_held state.entries) (what_if_held state.entries) (beside (are_mixed first second)) (λ changes subject own. refl) (unmade_refusal (dump_of (forgetting state))) None made state.entries first second query

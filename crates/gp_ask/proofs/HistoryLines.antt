@@ -36,14 +36,15 @@ use Rattle.gp_machine.specs.Runs.{run_before}
 use Rattle.gp_reenact.specs.LookingForms.{Looks, system_row}
 use Rattle.gp_base.specs.declared.stop.Stop.TheVariants as stop
 use Rattle.gp_ask.specs.declared.answered.Answered.{Answered}
-use Rattle.gp_ask.specs.declared.answered.Answered.TheVariants.{History, Refused}
+use Rattle.gp_ask.specs.declared.answered.Answered.TheVariants.{Lines, Refused}
+use Rattle.gp_ask.specs.declared.answered.Heading.TheVariants.{History}
 use Rattle.gp_ask.specs.Asking.{table_spans}
 use Rattle.gp_ask.specs.Changes.{Change, changed_by}
 use Rattle.gp_ask.specs.HistoryForms as f
 use Rattle.gp_ask.specs.Keyed.{identity_of}
 use Rattle.gp_ask.specs.Looked.{rows_of}
 use Rattle.gp_ask.specs.RowHistories as s
-use Rattle.gp_ask.specs.RowLines.{RowLine, few, keyed_from, line_cmp, row_line, row_texts}
+use Rattle.gp_ask.specs.RowLines.{RowLine, few, keyed_from, line_cmp, listed, row_line, row_texts}
 use Rattle.gp_ask.specs.Values.{unless_refused}
 use Rattle.gp_ask.proofs.ChangesLemmas.{cells_found, identity_found}
 use Rattle.gp_ask.proofs.FewLines.{all-taken, taken-length}
@@ -198,9 +199,9 @@ module _ (dump : Dump) (table : ℕ) (is_asked : Identity → Bool) where
   every (line ∷ lines) = (tt, every lines)
 
   abbrev answer-of : List Told → Answered
-  answer-of lines = cond (nat_lt MAX_ANSWER_ROWS (length lines)) (Refused E27) (History (map (λ (line : Told). line.1) (sorted_by by-identity lines)))
+  answer-of lines = cond (nat_lt MAX_ANSWER_ROWS (length lines)) (Refused E27) (Lines History (map (λ (line : Told). line.1) (sorted_by by-identity lines)))
 
-  listed-whole : (lines : List Told) → f.listed (keyed_from 0 (few (map as-line lines))) ≡ answer-of lines
+  listed-whole : (lines : List Told) → listed History (keyed_from 0 (few (map as-line lines))) ≡ answer-of lines
   listed-whole lines = by (nat_lt MAX_ANSWER_ROWS (length lines)) refl
     where
       all : List RowLine
@@ -209,26 +210,26 @@ module _ (dump : Dump) (table : ℕ) (is_asked : Identity → Bool) where
       counted : length (keyed_from 0 (few (map as-line lines))) ≡ length (few (map as-line lines))
       counted = keyed-length 0 (few (map as-line lines))
 
-      by : (b : Bool) → nat_lt MAX_ANSWER_ROWS (length lines) ≡ b → f.listed (keyed_from 0 (few (map as-line lines))) ≡ cond b (Refused E27) (History (map (λ (line : Told). line.1) (sorted_by by-identity lines)))
+      by : (b : Bool) → nat_lt MAX_ANSWER_ROWS (length lines) ≡ b → listed History (keyed_from 0 (few (map as-line lines))) ≡ cond b (Refused E27) (Lines History (map (λ (line : Told). line.1) (sorted_by by-identity lines)))
       by true is =
-          ap (λ b. cond b (Refused E27) (History (row_texts (sorted_by row_cmp (keyed_from 0 (few (map as-line lines)))))))
+          ap (λ b. cond b (Refused E27) (Lines History (row_texts (sorted_by row_cmp (keyed_from 0 (few (map as-line lines)))))))
           (lt-ltb MAX_ANSWER_ROWS (length (keyed_from 0 (few (map as-line lines))))
           (omega (arith, counted, ltb-true MAX_ANSWER_ROWS (length lines) is, length-map as-line lines, taken-length MAX_ANSWER_ROWS (map as-line lines))))
       by false is =
           let below : length lines ≤ MAX_ANSWER_ROWS = ltb-false MAX_ANSWER_ROWS (length lines) is in
           let whole : few (map as-line lines) ≡ map as-line lines = all-taken (suc MAX_ANSWER_ROWS) (map as-line lines) (omega (arith, length-map as-line lines)) in
-          ap (λ (own : List RowLine). f.listed (keyed_from 0 own)) whole
-          ∙ ap (λ b. cond b (Refused E27) (History (row_texts (sorted_by row_cmp (keyed_from 0 (map as-line lines))))))
+          ap (λ (own : List RowLine). listed History (keyed_from 0 own)) whole
+          ∙ ap (λ b. cond b (Refused E27) (Lines History (row_texts (sorted_by row_cmp (keyed_from 0 (map as-line lines))))))
           (le-ltb MAX_ANSWER_ROWS (length (keyed_from 0 (map as-line lines))) (omega (arith, keyed-length 0 (map as-line lines), length-map as-line lines)))
-          ∙ ap History
+          ∙ ap (Lines History)
           (sorted-lines (map as-line lines)
           ∙ ap (map (λ (line : RowLine). line.1)) (sorted-map by-identity line_cmp as-line (λ line. Unit {0}) agree lines (every lines))
           ∙ map-map (λ (line : RowLine). line.1) as-line (sorted_by by-identity lines))
 
   -- the answer
-  pub listed-is : f.listed (keyed_from 0 (few (f.versions_changes dump table is_asked (versions_in dump.entries)))) ≡ s.history_of dump.entries is_asked (s.dump_changed dump table)
+  pub listed-is : listed History (keyed_from 0 (few (f.versions_changes dump table is_asked (versions_in dump.entries)))) ≡ s.history_of dump.entries is_asked (s.dump_changed dump table)
   listed-is =
-      ap (λ (lines : List RowLine). f.listed (keyed_from 0 (few lines))) (versions-told (versions_in dump.entries))
+      ap (λ (lines : List RowLine). listed History (keyed_from 0 (few lines))) (versions-told (versions_in dump.entries))
       ∙ listed-whole (s.version_lines dump.entries is_asked (s.dump_changed dump table) (versions_in dump.entries))
 
 -- ---- one statement
@@ -261,9 +262,9 @@ module _ (dump : Dump) (table : ℕ) (select : Select) (asked : Identity → Boo
 
   -- the answer of what is found, or what it is refused for
   pub found-history : (refusal : Option Refusal) → {X : Type 0} (view : X → List (List Cell)) (found : X) → Looks view (Ok found) (given refusal rows)
-      → f.listed (view found) ≡ unless_refused refusal (s.history_of dump.entries (s.dump_asked dump table select) (s.dump_changed dump table))
+      → listed History (view found) ≡ unless_refused refusal (s.history_of dump.entries (s.dump_asked dump table select) (s.dump_changed dump table))
   found-history None view found is =
-      ap f.listed is ∙ listed-is dump table asked ∙ (λ i. s.history_of dump.entries (λ id. same id i) (s.dump_changed dump table))
+      ap (listed History) is ∙ listed-is dump table asked ∙ (λ i. s.history_of dump.entries (λ id. same id i) (s.dump_changed dump table))
   found-history (Some refusal) view found is = absurd is
 
   pub refused-history : (refusal : Option Refusal) → {X : Type 0} (view : X → List (List Cell)) (own : Refusal) → Looks view (Err (stop.Refused own)) (given refusal rows)

@@ -88,16 +88,9 @@ changed-same (Ok entries) subject query same = same entries refl
 pub remade-same : (dump : Dump)
     → ((own : List y.LogChange) (subject : y.Subject) (query : y.Query) → what_if_answer dump.entries own subject query ≡ what_if_held dump.entries own subject query)
     → (question : y.Question) → computed_answer dump question ≡ answer_to dump question
-remade-same dump changes y.transactions = refl
-remade-same dump changes (y.log t) = refl
-remade-same dump changes (y.versions name) = refl
-remade-same dump changes (y.changes t k) = refl
-remade-same dump changes (y.commit_changes t) = refl
-remade-same dump changes (y.conflicts t) = refl
+remade-same dump changes (y.bare question) = refl
 remade-same dump changes (y.history name cond) = refl
 remade-same dump changes (y.when query) = refl
-remade-same dump changes y.serial = refl
-remade-same dump changes y.check = refl
 remade-same dump changes (y.diff first second query) =
     diff-same (cond (are_mixed first second) (query_to (replayed_dump dump.entries)) (query_to dump)) (cond (are_mixed first second) (query_to (replayed_dump dump.entries)) (query_to dump)) (what_if_answer dump.entries) (what_if_held dump.entries) (λ subject own. refl) changes (unmade_refusal dump) (unmade_refusal dump) refl dump.entries
     first second query

@@ -16,10 +16,11 @@ use Rattle.gp_base.specs.declared.refusal.Refusal.TheVariants.{E27}
 use Rattle.gp_base.specs.Order.{cell_cmp, insert_sorted, row_cmp, sorted_by}
 use Rattle.gp_base.specs.RowOrder.{exact_rows}
 use Rattle.gp_base.proofs.SmallLemmas.{length-map}
-use Rattle.gp_ask.specs.declared.answered.Answered.TheVariants.{Refused, When}
-use Rattle.gp_ask.specs.IntervalForms.{end_cell, interval_row, listed}
+use Rattle.gp_ask.specs.declared.answered.Answered.TheVariants.{Lines, Refused}
+use Rattle.gp_ask.specs.declared.answered.Heading.TheVariants.{When}
+use Rattle.gp_ask.specs.IntervalForms.{end_cell, interval_row}
 use Rattle.gp_ask.specs.Intervals.{Interval, end_cmp, interval_cmp, interval_lines, interval_text}
-use Rattle.gp_ask.specs.RowLines.{as_text, row_texts, text_of}
+use Rattle.gp_ask.specs.RowLines.{as_text, listed, row_texts, text_of}
 use Rattle.gp_ask.proofs.RowLineLemmas.{numbers-compared}
 
 -- ---- what keeps an order
@@ -134,8 +135,8 @@ texts-are : (all : List Interval) → row_texts (map interval_row all) ≡ map i
 texts-are [] = refl
 texts-are (own ∷ all) = (λ i. option_to_list (interval-text own i) ++ texts-are all i)
 
-pub listed-is : (width : ℕ) (all : List Interval) → AllByRecursion (IsWide width) all → listed (map interval_row all) ≡ interval_lines all
+pub listed-is : (width : ℕ) (all : List Interval) → AllByRecursion (IsWide width) all → listed When (map interval_row all) ≡ interval_lines all
 listed-is width all wide =
-    ap (λ n. cond (nat_lt MAX_ANSWER_ROWS n) (Refused E27) (When (row_texts (sorted_by row_cmp (map interval_row all))))) (length-map interval_row all)
-    ∙ ap (λ (rows : List (List Cell)). cond (nat_lt MAX_ANSWER_ROWS (length all)) (Refused E27) (When (row_texts rows))) (sorted-map interval_cmp row_cmp interval_row (IsWide width) (compared width) all wide)
-    ∙ ap (λ (texts : List (List ℕ)). cond (nat_lt MAX_ANSWER_ROWS (length all)) (Refused E27) (When texts)) (texts-are (sorted_by interval_cmp all))
+    ap (λ n. cond (nat_lt MAX_ANSWER_ROWS n) (Refused E27) (Lines When (row_texts (sorted_by row_cmp (map interval_row all))))) (length-map interval_row all)
+    ∙ ap (λ (rows : List (List Cell)). cond (nat_lt MAX_ANSWER_ROWS (length all)) (Refused E27) (Lines When (row_texts rows))) (sorted-map interval_cmp row_cmp interval_row (IsWide width) (compared width) all wide)
+    ∙ ap (λ (texts : List (List ℕ)). cond (nat_lt MAX_ANSWER_ROWS (length all)) (Refused E27) (Lines When texts)) (texts-are (sorted_by interval_cmp all))

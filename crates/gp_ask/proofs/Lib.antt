@@ -3,11 +3,11 @@ mod BackendLemmas
 mod CarriedLemmas
 mod CausesLemmas
 mod ChangedLines
-mod ChangesLemmas
+pub mod ChangesLemmas
 mod ColumnNames
 mod CommitLines
 mod CommittedLines
-mod ConflictLemmas
+pub mod ConflictLemmas
 mod CountedLemmas
 mod DeletionLemmas
 mod DeltaLemmas
@@ -48,8 +48,9 @@ pub mod ReadAnswers
 mod ReadLemmas
 mod ReenactedLemmas
 mod RemainingLemmas
+mod RememberedLemmas
 mod ReplayedViews
-mod RowLineLemmas
+pub mod RowLineLemmas
 mod SeenLemmas
 mod SerialChanges
 mod SerialCycles

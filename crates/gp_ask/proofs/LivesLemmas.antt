@@ -48,7 +48,8 @@ use Rattle.gp_machine.specs.State.{State}
 use Rattle.gp_versions.specs.declared.span.Span.{Span}
 use Rattle.gp_versions.specs.Spans.{holds_at, is_before_end, row_of, spans_at}
 use Rattle.gp_versions.specs.TableSpans.{IsEndAbove}
-use Rattle.gp_ask.specs.declared.answered.Answered.TheVariants.{History, Refused}
+use Rattle.gp_ask.specs.declared.answered.Answered.TheVariants.{Lines, Refused}
+use Rattle.gp_ask.specs.declared.answered.Heading.TheVariants.{History}
 use Rattle.gp_ask.specs.Asking.{table_spans}
 use Rattle.gp_ask.specs.ChangeForms.{after_of, before_of}
 use Rattle.gp_ask.specs.Changes.{Change, cells_in, changed_by}
@@ -62,6 +63,7 @@ use Rattle.gp_ask.proofs.StableLemmas.{AreAlike, AreApart, alike-append, sorted-
 use Rattle.gp_ask.proofs.StatementLines.{changed-is, shown}
 use Rattle.gp_ask.proofs.TransactionRuns.{MakesOnce, passes-none}
 use Rattle.gp_ask.proofs.WrittenLines.{IsShown, all-shown, changed-written}
+use Rattle.gp_ask.proofs.ConflictLemmas.{or-true}
 
 -- ---- lines that are the same once sorted
 
@@ -155,10 +157,6 @@ module _ (p : Span → Bool) where
       }
       by false own some rest = let found = rest some in record { version = found.version; within = found.within; held = more found.version found.held }
 
-last-true : (a : Bool) → (a || true) ≡ true
-last-true true = refl
-last-true false = refl
-
 any-upto : (test : ℕ → Bool) (last version : ℕ) → version ≤ last → test version ≡ true → s.any_upto test last ≡ true
 any-upto test zero version within is = let same : version ≡ zero = omega arith in subst (λ n. test n ≡ true) same is
 any-upto test (suc u) version within is = by (nat_le version u) refl (λ below. any-upto test u version below is)
@@ -167,7 +165,7 @@ any-upto test (suc u) version within is = by (nat_le version u) refl (λ below. 
     by true own rest = ap (λ c. c || test (suc u)) (rest (leb-true version u own))
     by false own rest =
         let same : version ≡ suc u = omega (arith, leb-false version u own) in
-        ap (λ c. s.any_upto test u || c) (subst (λ n. test n ≡ true) same is) ∙ last-true (s.any_upto test u)
+        ap (λ c. s.any_upto test u || c) (subst (λ n. test n ≡ true) same is) ∙ or-true (s.any_upto test u)
 
 record TrueAt (test : ℕ → Bool) (last : ℕ) : Type 0 where
   version : ℕ
@@ -384,7 +382,7 @@ module _ (state : State Monomial) (reached : IsReached monomials parameters stat
           let sorted : sorted_by by-identity own ≡ sorted_by by-identity other =
           ap (sorted_by by-identity) (sym (append-nil own)) ∙ versions-alike last (omega arith) [] ∙ ap (sorted_by by-identity) (append-nil other) in
           let counted : length own ≡ length other = sym (sorted-length by-identity told-total own) ∙ ap length sorted ∙ sorted-length by-identity told-total other in
-          (λ i. cond (nat_lt parameters.answer (counted i)) (Refused E27) (History (map (λ (line : Told). line.1) (sorted i))))
+          (λ i. cond (nat_lt parameters.answer (counted i)) (Refused E27) (Lines History (map (λ (line : Told). line.1) (sorted i))))
 
     history-same : s.dump_history dump place select ≡ s.held_history state place select
     history-same =

@@ -1,14 +1,13 @@
 -- The rows by which one looks at statements, and the stops before them: one look up to the last statement that may stop tells what stops a transaction.
 use Rattle.std.proofs.Common.{◌≡◌, ℕ, zero, suc, ◌-◌, ◌<◌, ◌≤◌, Bool, true, false, List, map, Option, Some, None, Ok, Err, refl, sym, ap, ◌∙◌, arith}
-use Rattle.std.specs.Option.{option_and_then, option_map, option_or}
+use Rattle.std.specs.Option.{option_map, option_or}
 use Rattle.std.specs.Prelude.{nat_le}
 use Rattle.std.proofs.lemmas.Bool.{leb-false, leb-true}
-use Rattle.std.proofs.lemmas.Option.{same_Some}
 use Rattle.gp_base.proofs.SmallLemmas.{some_none}
 use Rattle.gp_base.specs.declared.cell.Cell.{Cell}
 use Rattle.gp_base.specs.declared.refusal.Refusal.{Refusal}
 use Rattle.gp_base.specs.Annotated.{Database, Environment, unannotated}
-use Rattle.gp_algebra.specs.Statements.{Statement, insert, insert_select, update, delete, read, target}
+use Rattle.gp_algebra.specs.Statements.{Statement, insert, insert_select, update, delete, read}
 use Rattle.gp_dump.specs.Dumps.{Dump}
 use Rattle.gp_grammar.specs.Syntax as y
 use Rattle.gp_log.specs.Parameters.{parameters}
@@ -102,17 +101,3 @@ module _ (dump : Dump) (t : ℕ) where
 
   pub stop-last : (low : ℕ) → low ≤ statement_count t dump.entries → NoneStops t low (statement_count t dump.entries) dump.entries → stop_at dump t low ≡ stop_of dump t
   stop-last low within none = ap (option_map stop_refusal) (sym (same-stops low (statement_count t dump.entries) within none))
-
--- ---- statements
-
--- one without a target may not stop
-pub quiet-without : (found : Option Statement) → option_and_then target found ≡ None → (statement : Statement) → found ≡ Some statement → may_stop statement ≡ false
-quiet-without None none statement is = absurd (some_none statement (sym is))
-quiet-without (Some own) none statement is = sym (by own none ∙ ap may_stop (same_Some own statement is))
-  where
-    by : (own : Statement) → target own ≡ None → false ≡ may_stop own
-    by (insert table rows) none = absurd (some_none table none)
-    by (insert_select table select) none = absurd (some_none table none)
-    by (update table sets c) none = refl
-    by (delete table c) none = refl
-    by (read select) none = refl

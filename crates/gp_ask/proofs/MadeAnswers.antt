@@ -55,16 +55,9 @@ module _ (programs : Programs) (dump : Dump) (unmade : unmade_refusal dump ≡ N
   changed = what_if_held programs dump.entries
 
   pub answers-as-made : (question : y.Question) → compares_histories question ≡ true → AnswersAsMade programs dump question
-  answers-as-made (y.log t) is = absurd (false≢true is)
-  answers-as-made (y.versions name) is = absurd (false≢true is)
-  answers-as-made y.transactions is = absurd (false≢true is)
-  answers-as-made (y.changes t k) is = absurd (false≢true is)
-  answers-as-made (y.commit_changes t) is = absurd (false≢true is)
-  answers-as-made (y.conflicts t) is = absurd (false≢true is)
+  answers-as-made (y.bare question) is = absurd (false≢true is)
   answers-as-made (y.history name cond) is = absurd (false≢true is)
   answers-as-made (y.when query) is = absurd (false≢true is)
-  answers-as-made y.serial is = absurd (false≢true is)
-  answers-as-made y.check is = absurd (false≢true is)
   answers-as-made (y.diff (y.as_is subject) (y.as_is other) query) is = absurd (false≢true is)
   answers-as-made (y.diff (y.as_is subject) (y.changed changes other) query) is =
       as-made-twice (unmade_refusal dump) (unmade_refusal made) (diff_of (rows_in (asks subject query)) (rows_in (changed changes other query))) unmade

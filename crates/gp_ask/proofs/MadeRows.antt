@@ -32,7 +32,6 @@ use Rattle.gp_reenact.specs.Travel.{no_table}
 use Rattle.gp_versions.specs.declared.span.Span.{Span}
 use Rattle.gp_versions.specs.Spans.{Versions}
 use Rattle.gp_whatif.specs.Replays.{IsMade, stop_upto}
-use Rattle.gp_ask.specs.Answerable.{IsAnswerable}
 use Rattle.gp_ask.specs.Asking.{table_spans}
 use Rattle.gp_ask.specs.Hypothetical.{remaking_refusal, replay_refusal, replayed_dump}
 use Rattle.gp_ask.specs.Made.{differing_refusal, unmade_refusal, version_refusal}
@@ -43,13 +42,7 @@ use Rattle.gp_ask.proofs.MadeSpans.{keys-moved, none-set}
 use Rattle.gp_ask.proofs.ProvenanceLemmas.{sound, spans-are}
 use Rattle.gp_ask.proofs.SpanLemmas.{dumped}
 use Rattle.gp_ask.proofs.WhatIfLemmas.{remaking_is}
-
-some-none : {R : Type 0} (found : R) → Some found ≡ None → ⊥
-some-none found is = absurd (cc)
-
-neither : {R : Type 0} (one other : Option R) → option_or one other ≡ None → (one ≡ None) × (other ≡ None)
-neither None other none = (refl, none)
-neither (Some found) other none = absurd (cc)
+use Rattle.gp_base.proofs.SmallLemmas.{none_parts, some_none}
 
 agreed : {R : Type 0} (same : Bool) (found : R) → cond same None (Some found) ≡ None → same ≡ true
 agreed true found none = refl
@@ -59,7 +52,7 @@ agreed false found none = absurd (cc)
 none-each : {R : Type 0} (g f : ℕ → Option R) → ((n : ℕ) → g (suc n) ≡ option_or (g n) (f n)) → (at upto : ℕ) → at < upto → g upto ≡ None → f at ≡ None
 none-each g f next at zero below none = absurd (omega (arith, below))
 none-each {R} g f next at (suc upto) below none =
-    by (eq-or-lt_of_le (let own : at ≤ upto = omega (arith, below) in own)) (neither (g upto) (f upto) (sym (next upto) ∙ none)) (λ lower earlier. none-each g f next at upto lower earlier)
+    by (eq-or-lt_of_le (let own : at ≤ upto = omega (arith, below) in own)) (none_parts (g upto) (f upto) (sym (next upto) ∙ none)) (λ lower earlier. none-each g f next at upto lower earlier)
   where
     by : (at ≡ upto) ⊎ (at < upto) → (g upto ≡ None) × (f upto ≡ None) → (at < upto → g upto ≡ None → f at ≡ None) → f at ≡ None
     by (inl here) both earlier = subst (λ n. f n ≡ None) (sym here) both.1
@@ -116,11 +109,11 @@ module _ (entries : List Entry) (versions : List Versions) (made : IsMade entrie
 -- then no commit stops
 pub remaking-none : (dump : Dump) → unmade_refusal dump ≡ None → remaking_refusal dump.entries ≡ None
 remaking-none dump none =
-    (neither (remaking_refusal dump.entries)
+    (none_parts (remaking_refusal dump.entries)
     (differing_refusal (tables_in dump.entries) (versions_in dump.entries) (as_of unannotated (table_spans dump.tables)) (as_of unannotated (table_spans (replayed_dump dump.entries).tables))) none).0
 
 -- row versions that are made, and are those of the dump table by table, are all that the log makes
-module _ (dump : code.Dump) (rules : IsAnswerable (dump_view dump)) (versions : List Versions)
+module _ (dump : code.Dump) (versions : List Versions)
     (made : IsMade (dump_view dump).entries (versions_in (dump_view dump).entries) versions) where
   as-listed : (place : ℕ) → IsPermutation (spans_of dump.versions place) (spans_of versions place)
       → IsPermutation (table_spans (dump_view dump).tables place) (replayed_spans unannotated (log_of (dump_view dump).entries) (length (tables_in (dump_view dump).entries)) (versions_in (dump_view dump).entries) place)
@@ -131,7 +124,7 @@ module _ (dump : code.Dump) (rules : IsAnswerable (dump_view dump)) (versions : 
 
   past-tables : (place : ℕ) → length dump.versions ≤ place → IsPermutation (spans_of dump.versions place) (spans_of versions place)
   past-tables place past =
-      let tables : length dump.versions ≡ length (tables_in (dump_view dump).entries) = (sound dump rules).tables in
+      let tables : length dump.versions ≡ length (tables_in (dump_view dump).entries) = (sound dump).tables in
       let others : length versions ≡ length (tables_in (dump_view dump).entries) = made.count in
       subst (λ (table : Versions). IsPermutation table.spans (spans_of versions place)) (sym (get_or_past dump.versions place no_table (omega (arith, past))))
       (subst (λ (table : Versions). IsPermutation no_table.spans table.spans) (sym (get_or_past versions place no_table (omega (arith, past, tables, others)))) (IsPermutation-refl no_table.spans))
@@ -160,7 +153,7 @@ unstopped entries none = by (stop_upto entries (versions_in entries)) refl
   where
     by : (stop : Option ReplayStop) → stop_upto entries (versions_in entries) ≡ stop → stop_upto entries (versions_in entries) ≡ None
     by None is = is
-    by (Some stop) is = absurd (some-none (replay_refusal entries stop) (sym (remaking_is entries (Some stop) is) ∙ none))
+    by (Some stop) is = absurd (some_none (replay_refusal entries stop) (sym (remaking_is entries (Some stop) is) ∙ none))
 
 pub made-rows : (dump : Dump) → unmade_refusal dump ≡ None → (version table : ℕ) → version < versions_in dump.entries → table < length (tables_in dump.entries)
     → agree (as_of unannotated (table_spans dump.tables) (suc version) table) (as_of unannotated (table_spans (replayed_dump dump.entries).tables) (suc version) table) ≡ true
@@ -169,4 +162,4 @@ made-rows dump none version table below listed =
     let rows : Environment (Unit {0}) = as_of unannotated (table_spans dump.tables) in
     let others : Environment (Unit {0}) = as_of unannotated (table_spans (replayed_dump dump.entries).tables) in
     rows-agree tables rows others (versions_in dump.entries) version table below listed
-    (neither (remaking_refusal dump.entries) (differing_refusal tables (versions_in dump.entries) rows others) none).1
+    (none_parts (remaking_refusal dump.entries) (differing_refusal tables (versions_in dump.entries) rows others) none).1

@@ -1,5 +1,5 @@
 -- Row versions that are the same in order have the same rows in every version.
-use Rattle.std.proofs.Common.{◌≡◌, ◌⊎◌, inl, inr, ℕ, zero, suc, ◌<◌, ◌≤◌, Bool, true, false, List, [], ◌∷◌, ◌++◌, length, map, get_or, Option, Some, None, refl, sym, ap, ◌∙◌, subst, arith}
+use Rattle.std.proofs.Common.{◌≡◌, ◌⊎◌, inl, inr, ℕ, zero, suc, ◌<◌, ◌≤◌, Bool, true, false, List, [], ◌∷◌, length, get_or, Option, Some, None, refl, sym, ap, ◌∙◌, subst, arith}
 use Rattle.std.specs.Prelude.{slice_get}
 use Rattle.std.specs.List.{flat_map, range_with_len}
 use Rattle.std.specs.List.Sorted.{IsPermutation}
@@ -43,14 +43,6 @@ within (x ∷ xs) (suc n) d e below = within xs n d e (omega (arith, below))
 
 pub table-at : (tables : List Versions) (place : ℕ) (own : Versions) → place < length tables → own ≡ get_or tables place own → spans_of tables place ≡ own.spans
 table-at tables place own below is = ap (λ (table : Versions). table.spans) (within tables place no_table own below ∙ sym is)
-
--- what is found at the same places of two lists
-pub found-same : {A B : Type 0} (f g : A → B) (xs ys : List A) → length xs ≡ length ys → ((i : ℕ) (x y : A) → slice_get xs i ≡ Some x → slice_get ys i ≡ Some y → f x ≡ g y) → map f xs ≡ map g ys
-found-same f g [] [] l same = refl
-found-same f g [] (y ∷ ys) l same = absurd (omega (arith, l))
-found-same f g (x ∷ xs) [] l same = absurd (omega (arith, l))
-found-same f g (x ∷ xs) (y ∷ ys) l same =
-    (λ i. same zero x y refl refl i ∷ found-same f g xs ys (let own : length xs ≡ length ys = omega (arith, l) in own) (λ n a b. same (suc n) a b) i)
 
 listed : (spans : List Span) → flat_map option_to_list (somes spans) ≡ spans
 listed [] = refl

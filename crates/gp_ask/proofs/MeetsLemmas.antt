@@ -59,7 +59,8 @@ use Rattle.gp_machine.specs.SeenRows.{AreDistinct}
 use Rattle.gp_machine.specs.State.{Active, State}
 use Rattle.gp_versions.specs.declared.span.Span.{Span}
 use Rattle.gp_versions.specs.Spans.{holds_at, row_of, spans_at}
-use Rattle.gp_ask.specs.declared.answered.Answered.TheVariants.{Conflicts}
+use Rattle.gp_ask.specs.declared.answered.Answered.TheVariants.{Lines}
+use Rattle.gp_ask.specs.declared.answered.Heading.TheVariants.{Conflicts}
 use Rattle.gp_ask.specs.Asking.{table_spans}
 use Rattle.gp_ask.specs.Changes.{ends_at}
 use Rattle.gp_ask.specs.RowConflicts as s
@@ -529,7 +530,7 @@ module _ (state : State Monomial) (reached : IsReached monomials parameters stat
         ap (λ (stop : Option RunStop). unless_refused (option_map stop_refusal stop) (s.conflicts_of state.entries (tables_in state.entries) (s.dump_wrote dump) t (s.firsts (s.dump_written dump t count))))
         (passes-none parameters (forgetting state) plainly spans are t is.some is.known rise count (omega arith))
         ∙ ap (λ (catalogue : List Table). s.conflicts_of state.entries catalogue (s.dump_wrote dump) t (s.firsts (s.dump_written dump t count))) kept
-        ∙ ap Conflicts
+        ∙ ap (Lines Conflicts)
         (ap (flat_map (s.conflict_lines state.entries state.catalogue (s.dump_wrote dump) upto)) sorted-same
         ∙ lines-same (sorted_by based_cmp held-written) (all-sorted based_cmp (λ (own : Based). s.first_writer (dump-writes own) own.base (upto - own.base) ≡ s.first_writer (held-writes own) own.base (upto - own.base)) held-written same-writer))
 

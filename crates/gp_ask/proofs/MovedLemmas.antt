@@ -32,7 +32,7 @@ use Rattle.gp_kexec.proofs.DeletionLemmas.{answer_reduced, monomials_find}
 use Rattle.gp_ask.specs.declared.answered.Answered.TheVariants.{Rows}
 use Rattle.gp_ask.specs.Asking.{of_elements}
 use Rattle.gp_ask.specs.Remaining.{are_too_many, remaining, remaining_answer}
-use Rattle.gp_ask.proofs.ReenactedLemmas.{same-order}
+use Rattle.gp_serial.proofs.RunningLemmas.{sorted_same}
 
 -- what each item holds, in any order
 pub each_moved : {X : Type 0} (P : X → Type 0) (xs ys : List X) → SameBag xs ys → Each P xs → Each P ys
@@ -94,7 +94,7 @@ module _ (matches : Token → Bool) (select : Select) (db past : Database Monomi
       λ i. nat_lt parameters.answer (length (distinct i)) || nat_lt parameters.answer (rest i)
 
   listed_moved : (own : Option Refusal) → of_elements (given own (remaining has select db)) ≡ of_elements (given own (remaining has select past))
-  listed_moved None = ap Rows (same-order _ _ (IsPermutation-map (λ (element : Element Monomial). element.cells) _ _ (permutations.permuted _ _ remaining_bag)))
+  listed_moved None = ap Rows (sorted_same _ _ (IsPermutation-map (λ (element : Element Monomial). element.cells) _ _ (permutations.permuted _ _ remaining_bag)))
   listed_moved (Some refusal) = refl
 
   pub remaining_moved : (refusal : Option Refusal) → of_elements (remaining_answer has select db refusal) ≡ of_elements (remaining_answer has select past refusal)

@@ -26,7 +26,7 @@ use Rattle.gp_machine.proofs.Distinct.{each_all, each_filter, filter-filter, fil
 use Rattle.gp_machine.proofs.Made.{same_equal}
 use Rattle.gp_machine.specs.Entries.{Entry, Log, log_of, statement_at}
 use Rattle.gp_machine.specs.HistorySpans.{as_of}
-use Rattle.gp_machine.specs.Publishing.{holds_identity, publish, was_written}
+use Rattle.gp_machine.specs.Publishing.{publish, was_written}
 use Rattle.gp_machine.specs.Questions.{given}
 use Rattle.gp_machine.specs.Runs.{refreshed, run, run_before, stepped}
 use Rattle.gp_reenact.specs.LookingForms.{Looks, looked_rows, system_row}

@@ -16,6 +16,7 @@ use Rattle.gp_algebra.specs.Statements.{Select}
 use Rattle.gp_versions.specs.declared.span.Span.{Span}
 use Rattle.gp_ask.specs.ConflictForms.{met_at, met_in, noted}
 use Rattle.gp_ask.specs.HistoryForms.{span_asks}
+use Rattle.gp_versions.proofs.ChainLemmas.{least-none}
 
 -- ---- that an identity is there
 
@@ -33,10 +34,6 @@ asked-noted old new id updates other =
     by false (Some own) = refl
 
 -- ---- the least number
-
-pub least-none : (found : Option ℕ) → least found None ≡ found
-least-none None = refl
-least-none (Some v) = refl
 
 pub least-then : (a b c : Option ℕ) → least (least a b) c ≡ least a (least b c)
 least-then None b c = refl

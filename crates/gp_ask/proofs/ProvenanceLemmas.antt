@@ -1,10 +1,9 @@
--- The rows that provenance finds, listed, are the answer; and a well-formed dump can be asked: it has a log and row versions that go together.
-use Rattle.std.proofs.Common.{◌≡◌, ℕ, suc, List, [], ◌∷◌, length, map, Option, Result, Ok, Err, sym, refl, ap, ◌∙◌, subst}
+-- The rows that provenance finds, listed, are the answer; and a dump has a log and row versions that go together.
+use Rattle.std.proofs.Common.{◌≡◌, ℕ, List, map, Option, Result, Ok, Err, sym, ap, ◌∙◌, subst}
 use Rattle.std.specs.List.Sorted.{IsPermutation}
 use Rattle.std.proofs.lemmas.List.{length-map}
 use Rattle.gp_base.specs.declared.cell.Cell.{Cell}
 use Rattle.gp_base.specs.declared.refusal.Refusal.{Refusal}
-use Rattle.gp_base.specs.declared.table.Table.{Table}
 use Rattle.gp_base.specs.Annotated.{Annotations, monomials}
 use Rattle.gp_base.specs.Tokens.{Monomial}
 use Rattle.gp_grammar.specs.Syntax as y
@@ -15,7 +14,7 @@ use Rattle.gp_log.specs.LogFacts.{tables_in}
 use Rattle.gp_log.specs.LogFitting.{SpansFit}
 use Rattle.gp_log.specs.Logs.{log_view}
 use Rattle.gp_log.proofs.LoggedSessions.{sessions_kept}
-use Rattle.gp_machine.specs.Entries.{Entry, versions_in}
+use Rattle.gp_machine.specs.Entries.{Entry}
 use Rattle.gp_machine.specs.Questions.{annotated_answer}
 use Rattle.gp_versions.specs.declared.span.Span.{Span}
 use Rattle.gp_versions.specs.Spans.{Versions}
@@ -25,9 +24,9 @@ use Rattle.gp_reenact.specs.Reenacting.{spans_of}
 use Rattle.gp_whatif.specs.Replays.{IsReplayable}
 use Rattle.gp_dump.specs.declared.dump.Dump as code
 use Rattle.gp_dump.specs.Dumps.{Dump}
-use Rattle.gp_dump.specs.WholeDumps.{AreOfTables, IsDump}
-use Rattle.gp_dump.specs.Views.{dump_view, tables_view}
-use Rattle.gp_dump.proofs.FittingTables.{spans_of_dumps, statements_of_dumps}
+use Rattle.gp_dump.specs.WholeDumps.{IsDump}
+use Rattle.gp_dump.specs.Views.{tables_view}
+use Rattle.gp_dump.proofs.FittingTables.{statements_of_dumps}
 use Rattle.gp_history.specs.Agreement.{agree}
 use Rattle.gp_history.specs.declared.kept.Kept.{Kept}
 use Rattle.gp_history.specs.Keeping.{MayBeKept}
@@ -36,16 +35,16 @@ use Rattle.gp_history.specs.Agreement.{occurrence}
 use Rattle.gp_history.specs.Sound.{IsSound}
 use Rattle.gp_semiring.specs.Listing.{grouped, listed}
 use Rattle.gp_ask.specs.declared.answered.Answered.TheVariants.{Listed, Refused}
-use Rattle.gp_ask.specs.Answerable.{IsAnswerable}
 use Rattle.gp_ask.specs.Asking.{table_spans, with_monomials}
 use Rattle.gp_ask.specs.AskingForms.{dump_provenance}
 use Rattle.gp_ask.specs.Keeping.{MayBeKeptOf}
 use Rattle.gp_ask.proofs.GroupedRows.{listed-are}
-use Rattle.gp_ask.proofs.ReenactedLemmas.{dump-spans, same-order}
+use Rattle.gp_ask.proofs.ReenactedLemmas.{dump-spans}
+use Rattle.gp_serial.proofs.RunningLemmas.{sorted_same}
 
 -- occurrences in any order are listed alike
 pub same-list : (rows others : List (List Cell)) → IsPermutation rows others → listed rows ≡ listed others
-same-list rows others moved = ap grouped (same-order rows others moved)
+same-list rows others moved = ap grouped (sorted_same rows others moved)
 
 pub in-list : {X : Type 0} (view : X → List (List Cell)) (found : X) (expected : Result (List (Element Monomial)) Refusal) → Proves view (Ok found) expected
     → Listed (listed (view found)) ≡ with_monomials expected
@@ -57,31 +56,17 @@ pub unproven : {X : Type 0} (view : X → List (List Cell)) (refusal : Refusal) 
 unproven view refusal (Ok elements) none = absurd none
 unproven view refusal (Err expected) same = ap Refused same
 
-as-many : (tables : List Table) (versions : ℕ) (spans : List (List Span)) → AreOfTables tables versions spans → length spans ≡ length tables
-as-many [] versions [] are = refl
-as-many [] versions (own ∷ others) are = absurd are
-as-many (table ∷ tables) versions [] are = absurd are
-as-many (table ∷ tables) versions (own ∷ others) are = ap suc (as-many tables versions others are.1)
-
--- a well-formed dump can be asked
-pub answerable : (dump : Dump) → IsDump dump → IsAnswerable dump
-answerable dump rules = record {
-  sessions = sessions_kept parameters dump.entries rules.log;
-  statements = statements_of_dumps dump rules;
-  tables = as-many (tables_in dump.entries) (versions_in dump.entries) dump.tables rules.spans;
-  spans = spans_of_dumps dump rules;
-}
-
--- and its log can be replayed
+-- the log of a well-formed dump can be replayed
 pub replayable : (dump : Dump) → IsDump dump → IsReplayable dump.entries
 replayable dump rules = record { sessions = sessions_kept parameters dump.entries rules.log; fits = statements_of_dumps dump rules }
 
-pub sound : (dump : code.Dump) → IsAnswerable (dump_view dump) → IsSound (log_view dump.log.entries) dump.versions
-sound dump rules = record {
-  sessions = rules.sessions;
-  tables = sym (length-map dump.versions (λ (table : Versions). table.spans)) ∙ rules.tables;
-  statements = rules.statements;
-  spans = subst (λ (spans : ℕ → List Span). SpansFit (tables_in (log_view dump.log.entries)) spans) (sym (dump-spans dump.versions)) rules.spans;
+-- the log and the row versions of a dump go together
+pub sound : (dump : code.Dump) → IsSound (log_view dump.log.entries) dump.versions
+sound dump = record {
+  sessions = dump.answerable.sessions;
+  tables = sym (length-map dump.versions (λ (table : Versions). table.spans)) ∙ dump.answerable.tables;
+  statements = dump.answerable.statements;
+  spans = subst (λ (spans : ℕ → List Span). SpansFit (tables_in (log_view dump.log.entries)) spans) (sym (dump-spans dump.versions)) dump.answerable.spans;
 }
 
 -- ---- the row versions of a dump
@@ -93,8 +78,8 @@ module _ (dump : code.Dump) (versions : List Versions) (same : versions ≡ dump
   pub spans-are : spans_of versions ≡ table_spans (tables_view dump.versions)
   spans-are = ap spans_of same ∙ dump-spans dump.versions
 
-  pub sound-versions : IsAnswerable (dump_view dump) → IsSound entries versions
-  sound-versions rules = subst (λ (own : List Versions). IsSound entries own) (sym same) (sound dump rules)
+  pub sound-versions : IsSound entries versions
+  sound-versions = subst (λ (own : List Versions). IsSound entries own) (sym same) (sound dump)
 
   -- what is kept of the dump is kept of them, and the other way round
   pub kept-of : {M : Type 0} (domain : Annotations M) (kept : Option (Kept M)) → MayBeKeptOf domain dump kept → MayBeKept domain entries (spans_of versions) kept

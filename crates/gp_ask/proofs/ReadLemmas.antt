@@ -3,7 +3,7 @@ use Rattle.std.proofs.Common.{◌≡◌, ℕ, Bool, true, false, not, ◌&&◌, 
 use Rattle.gp_base.specs.declared.refusal.Refusal.{Refusal}
 use Rattle.gp_grammar.specs.Capping.{capped_question}
 use Rattle.gp_grammar.specs.declared.limits.TheConstants.{MAX_FROM}
-use Rattle.gp_grammar.specs.Laws.{has_statements, have_statements, side_has_statements}
+use Rattle.gp_grammar.specs.Laws.{has_statements, have_statements}
 use Rattle.gp_grammar.specs.Limits.{Shape, both, changes_shape, passed_limit, query_shape, question_shape, side_shape, some_above}
 use Rattle.gp_grammar.specs.LineReading.{Fault}
 use Rattle.gp_grammar.specs.Reading.{question_of}
@@ -18,7 +18,7 @@ use Rattle.gp_grammar.proofs.ShapeLemmas.{first_limit, of_shape, questions-fair}
 use Rattle.gp_syntax.specs.Refusals.{refusal_of_fault}
 use Rattle.gp_syntax.specs.ReadResults.{refusal_in}
 use Rattle.gp_check.specs.Valid as check
-use Rattle.gp_check.specs.Valid.{changes_are_valid, query_is_valid, side_is_valid}
+use Rattle.gp_check.specs.Valid.{changes_are_valid, query_is_valid}
 use Rattle.gp_check.proofs.ValidLemmas.{question-read}
 use Rattle.gp_ask.specs.declared.answered.Answered.{Answered}
 use Rattle.gp_ask.specs.declared.answered.Answered.TheVariants.{Refused}
@@ -38,16 +38,9 @@ pub within-from : (shape : Shape) → passed_limit shape ≡ None → some_above
 within-from shape none = from-within _ _ _ _ _ _ _ (sym (of_shape shape) ∙ none)
 
 few-within : (question : y.Question) → passed_limit (question_shape question) ≡ None → keeps_from question ≡ true
-few-within y.transactions within = refl
-few-within (y.log t) within = refl
-few-within (y.versions name) within = refl
-few-within (y.changes t k) within = refl
-few-within (y.commit_changes t) within = refl
-few-within (y.conflicts t) within = refl
+few-within (y.bare question) within = refl
 few-within (y.history name cond) within = refl
 few-within (y.when query) within = ap not (within-from (query_shape query) within)
-few-within y.serial within = refl
-few-within y.check within = refl
 few-within (y.diff first second query) within = ap not (within-from (query_shape query) (both-within (both (side_shape first) (side_shape second)) (query_shape query) within).1)
 few-within (y.causes subject query) within = ap not (within-from (query_shape query) within)
 few-within (y.ask subject query) within = ap not (within-from (query_shape query) within)
@@ -72,20 +65,6 @@ valid-change changes subject query valid =
     let inner = and_parts (changes_are_valid changes && query_is_valid query) (has_few_items query) outer.1 in
     let parts = and_parts (changes_are_valid changes) (query_is_valid query) inner.0 in
     (outer.0, (parts.0, (parts.1, inner.1)))
-
--- what the code asks of a side
-abbrev pub SideIsValid : y.Side → Type 0
-SideIsValid side = (side_has_statements side ≡ true) × (side_is_valid side ≡ true)
-
-pub valid-diff : (first second : y.Side) (query : y.Query) → question_is_valid (y.diff first second query) ≡ true
-    → (SideIsValid first × SideIsValid second) × ((query_is_valid query ≡ true) × (has_few_items query ≡ true))
-valid-diff first second query valid =
-    let outer = and_parts (side_has_statements first && side_has_statements second) (((side_is_valid first && side_is_valid second) && query_is_valid query) && has_few_items query) valid in
-    let inner = and_parts ((side_is_valid first && side_is_valid second) && query_is_valid query) (has_few_items query) outer.1 in
-    let parts = and_parts (side_is_valid first && side_is_valid second) (query_is_valid query) inner.0 in
-    let statements = and_parts (side_has_statements first) (side_has_statements second) outer.0 in
-    let sides = and_parts (side_is_valid first) (side_is_valid second) parts.0 in
-    (((statements.0, sides.0), (statements.1, sides.1)), (parts.1, inner.1))
 
 pub refused-text : (answers : y.Question → Answered) (reading : Result y.Question Fault) (refusal : Refusal) → refusal_in reading ≡ Some refusal
     → Refused refusal ≡ answered answers reading

@@ -15,19 +15,15 @@ use Rattle.gp_reenact.specs.Reenacting.{Reenacts, spans_of}
 use Rattle.gp_dump.specs.Views.{tables_view}
 use Rattle.gp_ask.specs.declared.answered.Answered.TheVariants.{Refused, Rows}
 use Rattle.gp_ask.specs.Asking.{of_elements, table_spans}
+use Rattle.gp_serial.proofs.RunningLemmas.{sorted_same}
 
 -- the row versions of the tables of a dump
 pub dump-spans : (versions : List Versions) → spans_of versions ≡ table_spans (tables_view versions)
 dump-spans versions = λ i place. sym (get_or-map (λ (table : Versions). table.spans) versions place no_table) i
 
-pub same-order : (rows others : List (List Cell)) → IsPermutation rows others → sorted_by row_cmp rows ≡ sorted_by row_cmp others
-same-order rows others moved =
-    sorted_rows_unique others (sorted_by row_cmp rows) (IsPermutation-trans others rows (sorted_by row_cmp rows) (IsPermutation-sym rows others moved) (rows_permuted rows))
-    (rows_sorted rows)
-
 pub in-order : {X M : Type 0} (view : X → List (List Cell)) (found : X) (expected : Result (List (Element M)) Refusal) → Reenacts view (Ok found) expected
     → Rows (sorted_by row_cmp (view found)) ≡ of_elements expected
-in-order view found (Ok elements) moved = ap Rows (same-order (view found) (cells_of elements) moved)
+in-order view found (Ok elements) moved = ap Rows (sorted_same (view found) (cells_of elements) moved)
 in-order view found (Err refusal) none = absurd none
 
 pub refused : {X M : Type 0} (view : X → List (List Cell)) (refusal : Refusal) (expected : Result (List (Element M)) Refusal) → Reenacts view (Err (stop.Refused refusal)) expected

@@ -21,6 +21,7 @@ use Rattle.gp_algebra.specs.Effects.{Written}
 use Rattle.gp_machine.specs.Conflicts.{written_cmp}
 use Rattle.gp_ask.specs.RowLines.{RowLine, first_text, first_texts, keyed_from, keyed_line, line_cmp, row_texts, same_key, sorted_texts, text_of}
 use Rattle.gp_ask.proofs.OnceLemmas.{adjacent, once, once-sorted}
+use Rattle.gp_ask.proofs.ChangesLemmas.{rises}
 
 -- ---- numbers of tables
 
@@ -31,9 +32,6 @@ as-numbers p q Greater is = omega (arith, ints)
 
 pub numbers-compared : (p q : ℕ) → int_cmp (pos p) (pos q) ≡ nat_cmp p q
 numbers-compared p q = nat_cmp_is p q (int_cmp (pos p) (pos q)) (as-numbers p q (int_cmp (pos p) (pos q)) (int_ranked (pos p) (pos q) (int_cmp (pos p) (pos q)) refl))
-
-rises : (p q : ℕ) → p < q → int_cmp (pos p) (pos q) ≡ Less
-rises p q less = numbers-compared p q ∙ sym (nat_cmp_is p q Less less)
 
 -- ---- keys
 

@@ -43,7 +43,8 @@ use Rattle.gp_machine.specs.State.{State}
 use Rattle.gp_reenact.specs.Looking.{looked_refusal}
 use Rattle.gp_versions.specs.declared.span.Span.{Span}
 use Rattle.gp_ask.specs.declared.answered.Answered.{Answered}
-use Rattle.gp_ask.specs.declared.answered.Answered.TheVariants.{Changes, Rows}
+use Rattle.gp_ask.specs.declared.answered.Answered.TheVariants.{Lines, Rows}
+use Rattle.gp_ask.specs.declared.answered.Heading.TheVariants.{Changes}
 use Rattle.gp_ask.specs.Printed.{answer_to, held_to}
 use Rattle.gp_ask.specs.Asking.{of_elements, query_answer, table_spans}
 use Rattle.gp_ask.specs.ChangeForms.{changes_of, dump_changes, if_any}
@@ -53,10 +54,11 @@ use Rattle.gp_ask.specs.Seeing.{dump_saw, history_saw}
 use Rattle.gp_ask.proofs.ChangedLines.{changed-different, changed-reannotated, changed-same, texts-same}
 use Rattle.gp_ask.proofs.HeldLemmas.{forgetting, same-rows}
 use Rattle.gp_ask.proofs.QueryLemmas.{query-same}
-use Rattle.gp_ask.proofs.ReenactedLemmas.{same-order}
 use Rattle.gp_ask.proofs.StatementLines.{changes-told}
 use Rattle.gp_ask.proofs.TransactionRuns.{IsRising, MakesOnce, ReadsWithin, different-after, different-before, own-before, own-starts, passes-none, reads-within, runs-none, saw, started}
 use Rattle.gp_ask.proofs.WrittenLines.{IsFresh, changes-written}
+use Rattle.gp_ask.proofs.ChangesLemmas.{numbered-by}
+use Rattle.gp_serial.proofs.RunningLemmas.{sorted_same}
 
 -- ---- what is not refused
 
@@ -77,13 +79,6 @@ not-above : (t k : ℕ) (entries : List Entry) (b : Bool) → nat_le k (statemen
 not-above t k entries true is none = leb-true k (statement_count t entries) is
 not-above t k entries false is none = absurd (some_none (E22 t (statement_count t entries)) none)
 
-is-statement : (t k : ℕ) (entries : List Entry) (b : Bool) → (nat_lt 0 k && nat_le k (statement_count t entries)) ≡ b → cond b None (Some (E22 t (statement_count t entries))) ≡ None
-    → (0 < k) × (k ≤ statement_count t entries)
-is-statement t k entries true is none =
-    let parts = and_parts (nat_lt 0 k) (nat_le k (statement_count t entries)) is in
-    (ltb-true 0 k parts.0, leb-true k (statement_count t entries) parts.1)
-is-statement t k entries false is none = absurd (some_none (E22 t (statement_count t entries)) none)
-
 -- ---- the same elements in any order
 
 module _ {M : Type 0} (elements others : List (Element M)) (moved : SameBag elements others) where
@@ -92,7 +87,7 @@ module _ {M : Type 0} (elements others : List (Element M)) (moved : SameBag elem
 
   within-limit : (b : Bool) → of_elements (given (cond b (Some E27) None) elements) ≡ of_elements (given (cond b (Some E27) None) others)
   within-limit true = refl
-  within-limit false = ap Rows (same-order (cells_of elements) (cells_of others) (permuted _ _ (mapped (λ element. element.cells) moved)))
+  within-limit false = ap Rows (sorted_same (cells_of elements) (cells_of others) (permuted _ _ (mapped (λ element. element.cells) moved)))
 
   -- as the code's answer is refused: by the log, by a stop, by its length
   pub answered-alike : (refusal : Option Refusal) (stop : Option RunStop) → refusal ≡ None → stop ≡ None
@@ -204,7 +199,7 @@ module _ (state : State Monomial) (reached : IsReached monomials parameters stat
 
     changes-are : (catalogue : List Table) (place : Option ℕ) → changes_of catalogue place statement (Ok found-rows) ≡ changes_of catalogue place statement (Ok changed)
     changes-are catalogue None = refl
-    changes-are catalogue (Some place) = ap Changes (texts-same (name_at place catalogue) statement found-rows changed moved-rows different-rows)
+    changes-are catalogue (Some place) = ap (Lines Changes) (texts-same (name_at place catalogue) statement found-rows changed moved-rows different-rows)
 
     changes-same : dump_changes dump t k statement ≡ history_changes state t k
     changes-same =
@@ -213,9 +208,9 @@ module _ (state : State Monomial) (reached : IsReached monomials parameters stat
         (passes-none parameters (forgetting state) plainly spans are t is.some is.known (rises t) (suc k) (omega arith))
         ∙ changes-are state.catalogue (target statement)
         ∙ changes-written monomials t (suc k) state.catalogue statement read-rows (fresh-read (target_of statement)) (different-read (target_of statement)) (different-left (target_of statement))
-        ∙ (λ i. Changes (written_texts state.catalogue (wrote_by monomials t (suc k) (sym here i) read-rows) read-rows (sym left i)))
+        ∙ (λ i. Lines Changes (written_texts state.catalogue (wrote_by monomials t (suc k) (sym here i) read-rows) read-rows (sym left i)))
 
-  pub alters : (t k : ℕ) → answer_to dump (y.changes t k) ≡ held_to state (y.changes t k)
+  pub alters : (t k : ℕ) → answer_to dump (y.bare (y.changes t k)) ≡ held_to state (y.bare (y.changes t k))
   alters t k = changes-told dump t k ∙ by (changes_refusal t k state.entries) refl
     where
       any : changes_refusal t k state.entries ≡ None → (found : Option Statement) → statement_at t k state.entries ≡ found
@@ -226,7 +221,7 @@ module _ (state : State Monomial) (reached : IsReached monomials parameters stat
           parts = none_parts (unknown_refusal t state.entries) (statement_refusal t k state.entries) none
 
           within : (0 < k) × (k ≤ statement_count t state.entries)
-          within = is-statement t k state.entries (nat_lt 0 k && nat_le k (statement_count t state.entries)) refl parts.1
+          within = numbered-by t k state.entries (nat_lt 0 k && nat_le k (statement_count t state.entries)) refl parts.1
 
           next : k ≡ suc (k - 1)
           next = omega (arith, within.0)
@@ -234,7 +229,7 @@ module _ (state : State Monomial) (reached : IsReached monomials parameters stat
           go : (found : Option Statement) → statement_at t (suc (k - 1)) state.entries ≡ found → if_any (dump_changes dump t (k - 1)) found ≡ history_changes state t (k - 1)
           go None is =
               let own : Database Monomial = start_by monomials (log_of state.entries) t (k - 1) state.committed in
-              λ i. Changes (written_texts state.catalogue (wrote_by monomials t (suc (k - 1)) (sym is i) own) own (state.views t (suc (k - 1))))
+              λ i. Lines Changes (written_texts state.catalogue (wrote_by monomials t (suc (k - 1)) (sym is i) own) own (state.views t (suc (k - 1))))
           go (Some statement) is =
               changes-same t (k - 1) (not-unknown t state.entries (is_known t state.entries) refl parts.0) (omega (arith, within.0, within.1)) statement is
 

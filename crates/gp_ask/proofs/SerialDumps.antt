@@ -16,7 +16,6 @@ use Rattle.gp_base.proofs.SmallLemmas.{each_append, eq_itself, some_none}
 use Rattle.gp_versions.proofs.SameLemmas.{same-exact, same-itself}
 use Rattle.gp_versions.specs.declared.span.Span.{Span}
 use Rattle.gp_log.specs.LogFacts.{tables_in}
-use Rattle.gp_log.specs.LogFitting.{SpansFit}
 use Rattle.gp_machine.specs.Entries.{versions_in}
 use Rattle.gp_machine.specs.Precedence.{same_row}
 use Rattle.gp_machine.specs.RowChanges.{RowChange, deleted_changes, goes_on_in, span_changes, spans_changes, tables_changes}
@@ -39,9 +38,8 @@ use Rattle.gp_machine.specs.Entries.{Entry}
 use Rattle.gp_reenact.specs.Reenacting.{spans_of}
 use Rattle.gp_versions.specs.Spans.{Versions}
 use Rattle.std.specs.Prelude.{IfOk}
-use Rattle.gp_ask.proofs.ProvenanceLemmas.{answerable}
+use Rattle.gp_ask.proofs.ProvenanceLemmas.{sound}
 use Rattle.gp_ask.proofs.ReenactedLemmas.{dump-spans}
-use Rattle.std.proofs.lemmas.List.{length-map}
 
 -- ---- the order of rows
 
@@ -243,12 +241,12 @@ tables_rise table (own ∷ spans) (chain, all) =
 
 pub serializable : (dump : code.Dump) → IsDump (dump_view dump) → IsSerializable dump.log dump.versions
 serializable dump rules =
-    let can = answerable (dump_view dump) rules in
+    let can = sound dump in
     record {
       sessions = can.sessions;
       statements = can.statements;
-      count = sym (length-map dump.versions (λ table. table.spans)) ∙ can.tables;
-      spans = subst (SpansFit (tables_in (dump_view dump).entries)) (sym (dump-spans dump.versions)) can.spans;
+      count = can.tables;
+      spans = can.spans;
       grouped = grouped_from (tables_changes 0 (tables_view dump.versions))
           (tables_rise 0 (tables_view dump.versions) (chains (tables_in (dump_view dump).entries) (versions_in (dump_view dump).entries) (tables_view dump.versions) rules.spans)).0;
       few = omega (arith, rules.few_entries);

@@ -27,7 +27,8 @@ use Rattle.gp_serial.specs.Serializing as s
 use Rattle.gp_serial.proofs.OrderLemmas.{order_has_all}
 use Rattle.gp_serial.proofs.SerialOrders.{are_once}
 use Rattle.gp_serial.proofs.SerializingLemmas.{all_different, order_different}
-use Rattle.gp_ask.specs.declared.answered.Answered.TheVariants.{Cycle, Serial}
+use Rattle.gp_ask.specs.declared.answered.Answered.TheVariants.{Lines}
+use Rattle.gp_ask.specs.declared.answered.Heading.TheVariants.{Cycle, Serial}
 use Rattle.gp_ask.specs.Asking.{table_spans}
 use Rattle.gp_ask.specs.Questions.{is_refused}
 use Rattle.gp_ask.specs.SerialAnswers.{serial_answer}
@@ -54,7 +55,7 @@ module _ (state : State (Unit {0})) (keeps : KeepsSessions state.entries) (whole
 
   -- ---- an order
 
-  pub runs_serially : (texts : List (List ℕ)) → serial_answer (dump_of state) ≡ Serial texts
+  pub runs_serially : (texts : List (List ℕ)) → serial_answer (dump_of state) ≡ Lines Serial texts
       → ((order : List ℕ) → AreOnce order → IsPermutation order (committers state) → is_serial parameters (log_of state.entries) (length state.catalogue) (as_of unannotated spans) order ≡ true → IsSerialAs state order)
       → RunsSerially state texts
   runs_serially texts e serial_as =
@@ -80,7 +81,7 @@ module _ (state : State (Unit {0})) (keeps : KeepsSessions state.entries) (whole
         different-unmapped (state.committed version table)
         (subst (λ (own : List (Annotated (Unit {0}))). HaveDifferentIdentities own) (rows version table within) (different-spans (spans_at version (state_spans state table)) (one_row version table)))
 
-    pub runs_in_cycle : (texts : List (List ℕ)) → serial_answer (dump_of state) ≡ Cycle texts → RunsInCycle state texts
+    pub runs_in_cycle : (texts : List (List ℕ)) → serial_answer (dump_of state) ≡ Lines Cycle texts → RunsInCycle state texts
     runs_in_cycle texts e =
         let found = cycle_given tables state.entries (tables_changes 0 (dump_of state).tables) spans texts _ e in
         record {

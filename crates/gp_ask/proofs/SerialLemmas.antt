@@ -23,6 +23,7 @@ use Rattle.gp_serial.specs.Serializing.{InCycle, InOrder, Serial, Undecided, by_
 use Rattle.gp_versions.specs.declared.span.Span.{Span}
 use Rattle.gp_ask.specs.declared.answered.Answered.{Answered}
 use Rattle.gp_ask.specs.declared.answered.Answered.TheVariants as answered
+use Rattle.gp_ask.specs.declared.answered.Heading.TheVariants as heading
 use Rattle.gp_ask.specs.Questions.{is_refused}
 use Rattle.gp_ask.specs.SerialAnswers.{answered_serial, step_text}
 use Rattle.gp_ask.specs.Values.{unless_refused}
@@ -38,18 +39,18 @@ module _ (tables : List Table) (entries : List Entry) (changes : List RowChange)
   order = order_of (is_before tables entries changes) (committers entries)
 
   tried : (b : Bool) → ((length order == length (committers entries)) && is_serial parameters (log_of entries) (length tables) (as_of unannotated spans) order) ≡ b
-      → answered_serial tables entries (cond b (InOrder order) Undecided) ≡ answered.Serial texts → OrderOf tables entries changes spans texts
+      → answered_serial tables entries (cond b (InOrder order) Undecided) ≡ answered.Lines heading.Serial texts → OrderOf tables entries changes spans texts
   tried true is e =
       let parts = and_parts (length order == length (committers entries)) (is_serial parameters (log_of entries) (length tables) (as_of unannotated spans) order) is in
       record { numbers = cc; all = eqb-true (length order) (length (committers entries)) parts.0; serial = parts.1 }
   tried false is e = absurd cc
 
-  by_cycle : (cycle : List ℕ) → answered_serial tables entries (serial_by tables entries changes parameters spans cycle) ≡ answered.Serial texts → OrderOf tables entries changes spans texts
+  by_cycle : (cycle : List ℕ) → answered_serial tables entries (serial_by tables entries changes parameters spans cycle) ≡ answered.Lines heading.Serial texts → OrderOf tables entries changes spans texts
   by_cycle [] e = tried ((length order == length (committers entries)) && is_serial parameters (log_of entries) (length tables) (as_of unannotated spans) order) refl e
   by_cycle (first ∷ others) e = absurd cc
 
   pub order_given : (refusal : Option Refusal) (cycle : List ℕ)
-      → unless_refused refusal (answered_serial tables entries (serial_by tables entries changes parameters spans cycle)) ≡ answered.Serial texts → OrderOf tables entries changes spans texts
+      → unless_refused refusal (answered_serial tables entries (serial_by tables entries changes parameters spans cycle)) ≡ answered.Lines heading.Serial texts → OrderOf tables entries changes spans texts
   order_given (Some refusal) cycle e = absurd cc
   order_given None cycle e = by_cycle cycle e
 
@@ -62,23 +63,23 @@ pub record CycleOf (tables : List Table) (entries : List Entry) (changes : List 
 
 module _ (tables : List Table) (entries : List Entry) (changes : List RowChange) (spans : ℕ → List Span) where
   -- the order that is tried is no cycle
-  tried_order : (texts : List (List ℕ)) (b : Bool) → answered_serial tables entries (cond b (InOrder (order_of (is_before tables entries changes) (committers entries))) Undecided) ≡ answered.Cycle texts → ⊥
+  tried_order : (texts : List (List ℕ)) (b : Bool) → answered_serial tables entries (cond b (InOrder (order_of (is_before tables entries changes) (committers entries))) Undecided) ≡ answered.Lines heading.Cycle texts → ⊥
   tried_order texts true e = absurd cc
   tried_order texts false e = absurd cc
 
   cycle_by : (texts : List (List ℕ)) (cycle : List ℕ) → least_cycle (is_before tables entries changes) (by_number entries) ≡ cycle
-      → answered_serial tables entries (serial_by tables entries changes parameters spans cycle) ≡ answered.Cycle texts → CycleOf tables entries changes texts
+      → answered_serial tables entries (serial_by tables entries changes parameters spans cycle) ≡ answered.Lines heading.Cycle texts → CycleOf tables entries changes texts
   cycle_by texts [] is e =
       absurd (tried_order texts ((length (order_of (is_before tables entries changes) (committers entries)) == length (committers entries))
       && is_serial parameters (log_of entries) (length tables) (as_of unannotated spans) (order_of (is_before tables entries changes) (committers entries))) e)
   cycle_by texts (first ∷ others) is e = record { first = first; others = others; is = is; lines = lines_of texts e }
     where
-      lines_of : (texts : List (List ℕ)) → answered.Cycle (map (step_text tables entries) (steps_of tables entries changes (first ∷ others))) ≡ answered.Cycle texts
+      lines_of : (texts : List (List ℕ)) → answered.Lines heading.Cycle (map (step_text tables entries) (steps_of tables entries changes (first ∷ others))) ≡ answered.Lines heading.Cycle texts
           → texts ≡ map (step_text tables entries) (steps_of tables entries changes (first ∷ others))
       lines_of texts e = cc
 
   pub cycle_given : (texts : List (List ℕ)) (refusal : Option Refusal)
-      → unless_refused refusal (answered_serial tables entries (serial_of tables entries changes parameters spans)) ≡ answered.Cycle texts → CycleOf tables entries changes texts
+      → unless_refused refusal (answered_serial tables entries (serial_of tables entries changes parameters spans)) ≡ answered.Lines heading.Cycle texts → CycleOf tables entries changes texts
   cycle_given texts (Some refusal) e = absurd cc
   cycle_given texts None e = cycle_by texts (least_cycle (is_before tables entries changes) (by_number entries)) refl e
 

@@ -22,7 +22,8 @@ use Rattle.gp_machine.specs.HistorySpans.{as_of}
 use Rattle.gp_machine.specs.Questions.{given}
 use Rattle.gp_machine.specs.Runs.{run_before}
 use Rattle.gp_reenact.specs.Looking.{looked_refusal}
-use Rattle.gp_ask.specs.declared.answered.Answered.TheVariants.{Changes}
+use Rattle.gp_ask.specs.declared.answered.Answered.TheVariants.{Lines}
+use Rattle.gp_ask.specs.declared.answered.Heading.TheVariants.{Changes}
 use Rattle.gp_ask.specs.Asking.{table_spans}
 use Rattle.gp_ask.specs.ChangeForms.{after_of, before_of, by_identity, changed_texts, changes_of, changes_to, dump_changes, if_any}
 use Rattle.gp_ask.specs.Changes.{Change, change_text, change_texts, changed_by, changes_over, numbered_changes}
@@ -71,23 +72,23 @@ module _ (statement : Statement) where
       ∙ map-map (λ (change : Change). change_text name change.0 change.1.0 change.1.1) (shown statement) (sorted_by by_identity rows)
 
   answer-is : (tables : List Table) (place : Option ℕ) (refusal : Option Refusal) (rows : List Row)
-      → option_map_or (λ (own : ℕ). or_refused (λ (changes : List Change). Changes (change_texts (name_at own tables) changes)) (given refusal (map (shown statement) rows))) place (Changes [])
+      → option_map_or (λ (own : ℕ). or_refused (λ (changes : List Change). Lines Changes (change_texts (name_at own tables) changes)) (given refusal (map (shown statement) rows))) place (Lines Changes [])
       ≡ changes_of tables place statement (given refusal rows)
   answer-is tables None refusal rows = refl
-  answer-is tables (Some place) None rows = ap Changes (texts-are (name_at place tables) rows)
+  answer-is tables (Some place) None rows = ap (Lines Changes) (texts-are (name_at place tables) rows)
   answer-is tables (Some place) (Some refusal) rows = refl
 
 -- ---- a statement of a dump
 
 changes-are : (dump : Dump) (t k : ℕ) (statement : Statement) → changes_over dump t k statement ≡ dump_changes dump t k statement
 changes-are dump t k statement =
-    ap (λ (own : List Change). option_map_or (λ (place : ℕ). or_refused (λ (changes : List Change). Changes (change_texts (name_at place (tables_in dump.entries)) changes)) (given (looked_refusal parameters dump.entries (table_spans dump.tables) t k statement) own))
-    (target statement) (Changes []))
+    ap (λ (own : List Change). option_map_or (λ (place : ℕ). or_refused (λ (changes : List Change). Lines Changes (change_texts (name_at place (tables_in dump.entries)) changes)) (given (looked_refusal parameters dump.entries (table_spans dump.tables) t k statement) own))
+    (target statement) (Lines Changes []))
     (changed-is t (suc k) statement (run_before unannotated (log_of dump.entries) t k (as_of unannotated (table_spans dump.tables))))
     ∙ answer-is statement (tables_in dump.entries) (target statement) (looked_refusal parameters dump.entries (table_spans dump.tables) t k statement)
     (changed_rows unannotated t (suc k) statement (run_before unannotated (log_of dump.entries) t k (as_of unannotated (table_spans dump.tables))))
 
-if-any-are : (dump : Dump) (t k : ℕ) (found : Option Statement) → option_map_or (changes_over dump t k) found (Changes []) ≡ if_any (dump_changes dump t k) found
+if-any-are : (dump : Dump) (t k : ℕ) (found : Option Statement) → option_map_or (changes_over dump t k) found (Lines Changes []) ≡ if_any (dump_changes dump t k) found
 if-any-are dump t k None = refl
 if-any-are dump t k (Some statement) = changes-are dump t k statement
 

@@ -33,7 +33,8 @@ use Rattle.gp_base.specs.declared.stop.Stop.{Stop}
 use Rattle.gp_base.specs.declared.stop.Stop.TheVariants as stop
 use Rattle.gp_versions.specs.declared.span.Span.{Span}
 use Rattle.gp_versions.specs.Spans.{holds_at, is_before_end, row_of, spans_at}
-use Rattle.gp_ask.specs.declared.answered.Answered.TheVariants.{Refused, When}
+use Rattle.gp_ask.specs.declared.answered.Answered.TheVariants.{Lines, Refused}
+use Rattle.gp_ask.specs.declared.answered.Heading.TheVariants.{When}
 use Rattle.gp_ask.specs.Asking.{asked, of_elements, table_spans}
 use Rattle.gp_ask.specs.AskingForms.{dump_rows}
 use Rattle.gp_ask.specs.Changes.{ends_at}
@@ -41,6 +42,7 @@ use Rattle.gp_ask.specs.Differences.{rows_in}
 use Rattle.gp_ask.specs.IntervalForms as f
 use Rattle.gp_ask.specs.Intervals.{Interval, ending_before, ending_with, interval_cmp, interval_lines, interval_text, interval_upto, intervals, numbered, refusal_upto, times, version_rows}
 use Rattle.gp_ask.specs.Printed.{query_to}
+use Rattle.gp_ask.specs.RowLines.{listed}
 use Rattle.gp_ask.specs.Values.{or_refused, unless_refused}
 use Rattle.gp_ask.proofs.CarriedLemmas.{Ascends, all-made, ascends, closed-is, open-rows}
 use Rattle.gp_ask.proofs.IntervalLemmas.{all-carried, none-closed, rows-of, zipped-again}
@@ -269,7 +271,7 @@ module _ (dump : Dump) (select : Select) where
       by : (found : Option Refusal) → f.refusal_of dump select last ≡ found → Refused E27 ≡ f.checked_when dump select
       by (Some refusal) is = ap Refused (sym (many-upto last (omega arith) refusal is)) ∙ refused-when last (omega arith) refusal is
       by None is =
-          ap (λ b. cond b (Refused E27) (When (map interval_text (sorted_by interval_cmp (intervals (f.rows_at dump select) last))))) (sym (lt-ltb MAX_ANSWER_ROWS (length (intervals (f.rows_at dump select) last)) more))
+          ap (λ b. cond b (Refused E27) (Lines When (map interval_text (sorted_by interval_cmp (intervals (f.rows_at dump select) last))))) (sym (lt-ltb MAX_ANSWER_ROWS (length (intervals (f.rows_at dump select) last)) more))
           ∙ ap (λ (found : Option Refusal). unless_refused found (interval_lines (intervals (f.rows_at dump select) last))) (sym is)
 
   -- ---- versions
@@ -340,10 +342,10 @@ module _ (dump : Dump) (select : Select) where
 
   -- the last
   pub swept-last : select_fits (tables_in dump.entries) select ≡ true → (old : List f.Open) (rows : List (List Cell)) → f.IsSwept dump select last old rows
-      → f.listed (rows ++ map f.interval_row (map f.still_open old)) ≡ f.checked_when dump select
+      → listed When (rows ++ map f.interval_row (map f.still_open old)) ≡ f.checked_when dump select
   swept-last fits old rows swept =
       let answers = f.rows_at dump select in
-      ap f.listed
+      ap (listed When)
       ((λ i. swept.ended i ++ map f.interval_row (map f.still_open (swept.opened i)))
       ∙ sym (map-append f.interval_row (f.closed_upto answers last) (map f.still_open (f.open_at answers last)))
       ∙ ap (map f.interval_row) (all-made answers sorted last))

@@ -33,11 +33,9 @@ use Rattle.gp_ask.specs.Changes.{cells_in, change_text, side_texts, spans_texts,
 use Rattle.gp_ask.specs.ShownWrites.{AreCells, HasCells, HasChange, HasRow, Rise, RowChange, ShowsWrites, row_change_text}
 use Rattle.gp_ask.proofs.TransactionRuns.{same_written}
 use Rattle.gp_ask.proofs.WrittenLines.{own-cells}
+use Rattle.gp_ask.proofs.RowLineLemmas.{written-total}
 
 -- ---- the order of rows that were written
-
-written-total : IsTotalOrder written_cmp
-written-total = then_total (on_total (λ (pair : Written). pair.table) nat_cmp_total) (on_total (λ (pair : Written). pair.identity) identity_cmp_total)
 
 then-equal : (o p : Ordering) → ordering_then o p ≡ Equal → (o ≡ Equal) × (p ≡ Equal)
 then-equal Less p e = absurd cc

@@ -28,7 +28,8 @@ use Rattle.gp_machine.specs.Event.{name_at, target_of}
 use Rattle.gp_machine.specs.Publishing.{holds_identity}
 use Rattle.gp_machine.specs.SeenRows.{HaveDifferentIdentities, same_row}
 use Rattle.gp_versions.proofs.SameLemmas.{same-exact, same-itself}
-use Rattle.gp_ask.specs.declared.answered.Answered.TheVariants.{Changes}
+use Rattle.gp_ask.specs.declared.answered.Answered.TheVariants.{Lines}
+use Rattle.gp_ask.specs.declared.answered.Heading.TheVariants.{Changes}
 use Rattle.gp_ask.specs.ChangeForms.{after_of, before_of, by_identity, changed_text, changed_texts, changes_of}
 use Rattle.gp_ask.specs.Changes.{cells_in, change_text, side_texts, written_row_texts, written_texts}
 use Rattle.gp_ask.proofs.ChangedLines.{turned-rows}
@@ -223,9 +224,9 @@ module _ {M : Type 0} (domain : Annotations M) (t k : ℕ) where
 
   pub changes-written : (tables : List Table) (statement : Statement) (db : Database M) → IsFresh (db (target_of statement)) → HaveDifferentIdentities (db (target_of statement))
       → HaveDifferentIdentities (step domain t k statement db (target_of statement))
-      → changes_of tables (target statement) statement (Ok (changed_rows domain t k statement db)) ≡ Changes (written_texts tables (wrote domain t k statement db) db (step domain t k statement db))
-  changes-written tables (insert table rows) db fresh different after = ap Changes (own-lines tables (insert table rows) db fresh different after)
-  changes-written tables (insert_select table select) db fresh different after = ap Changes (own-lines tables (insert_select table select) db fresh different after)
-  changes-written tables (update table sets c) db fresh different after = ap Changes (own-lines tables (update table sets c) db fresh different after)
-  changes-written tables (delete table c) db fresh different after = ap Changes (own-lines tables (delete table c) db fresh different after)
+      → changes_of tables (target statement) statement (Ok (changed_rows domain t k statement db)) ≡ Lines Changes (written_texts tables (wrote domain t k statement db) db (step domain t k statement db))
+  changes-written tables (insert table rows) db fresh different after = ap (Lines Changes) (own-lines tables (insert table rows) db fresh different after)
+  changes-written tables (insert_select table select) db fresh different after = ap (Lines Changes) (own-lines tables (insert_select table select) db fresh different after)
+  changes-written tables (update table sets c) db fresh different after = ap (Lines Changes) (own-lines tables (update table sets c) db fresh different after)
+  changes-written tables (delete table c) db fresh different after = ap (Lines Changes) (own-lines tables (delete table c) db fresh different after)
   changes-written tables (read select) db fresh different after = refl

@@ -1,16 +1,11 @@
--- Of the contract of `answer`, as its premises: which questions are answered, and from which dumps. Every question that was read is such: so says the law
+-- Of the contract of `answer`, as its premise: which questions are answered. Every question that was read is such: so says the law
 -- `read_questions_are_valid`.
-use Rattle.std.specs.Prelude.{◌≡◌, Bool, true, not, ◌&&◌, length}
+use Rattle.std.specs.Prelude.{Bool, true, not, ◌&&◌}
 use Rattle.gp_grammar.specs.declared.limits.TheConstants.{MAX_FROM}
 use Rattle.gp_grammar.specs.Laws.{has_statements}
 use Rattle.gp_grammar.specs.Limits.{query_shape, some_above}
 use Rattle.gp_grammar.specs.Syntax as y
 use Rattle.gp_check.specs.Valid as check
-use Rattle.gp_log.specs.LogFacts.{tables_in}
-use Rattle.gp_log.specs.LogFitting.{SpansFit, statements_fit}
-use Rattle.gp_log.specs.Sessions.{KeepsSessions}
-use Rattle.gp_dump.specs.Dumps.{Dump}
-use Rattle.gp_ask.specs.Asking.{table_spans}
 
 -- no FROM has more items than a line may have
 abbrev pub has_few_items : y.Query → Bool
@@ -29,12 +24,3 @@ keeps_from question = true
 -- its query and the commands of its changes are valid, if it has them; the query keeps the limit of FROM, and the commands are statements
 abbrev pub question_is_valid : y.Question → Bool
 question_is_valid question = has_statements question && (check.question_is_valid question && keeps_from question)
-
--- A dump from which questions about states are answered: its log keeps its sessions, and what it holds fits its tables. Every well-formed dump is such, and
--- so is the one of commits made again.
-pub record IsAnswerable (dump : Dump) : Type 0 where
-  pub sessions : KeepsSessions dump.entries
-  pub statements : statements_fit (tables_in dump.entries) dump.entries ≡ true
-  -- one list of row versions for each table
-  pub tables : length dump.tables ≡ length (tables_in dump.entries)
-  pub spans : SpansFit (tables_in dump.entries) (table_spans dump.tables)

@@ -19,7 +19,8 @@ use Rattle.gp_log.specs.LogFacts.{tables_in}
 use Rattle.gp_dump.specs.Dumps.{Dump, dump_of}
 use Rattle.gp_dumpline.specs.Texts.{entry_text, span_text}
 use Rattle.gp_ask.specs.declared.answered.Answered.{Answered}
-use Rattle.gp_ask.specs.declared.answered.Answered.TheVariants.{Changes, Checked, Log, Program, Transactions, Versions, Refused}
+use Rattle.gp_ask.specs.declared.answered.Answered.TheVariants.{Checked, Lines, Program, Refused}
+use Rattle.gp_ask.specs.declared.answered.Heading.TheVariants.{Changes, Log, Transactions, Versions}
 use Rattle.gp_ask.specs.Asking.{Programs, query_answer, table_spans}
 use Rattle.gp_ask.specs.Changes.{dump_writes, history_changes, history_writes, numbered_changes}
 use Rattle.gp_ask.specs.Differences.{are_mixed, causes_answer, diff_answer}
@@ -44,17 +45,17 @@ module _ (programs : Programs) where
       (changed : ℕ → ℕ → Answered) (committed : ℕ → Answered) (conflicts : ℕ → Answered) (history : ℕ → Select → Answered) (serial : Answered) (unmade : Option Refusal)
       (line : Option ℕ) where
     abbrev pub answer_by : y.Question → Answered
-    answer_by (y.log t) = if is_known t entries then Log (map entry_text (filter (is_of t) (reverse entries))) else Refused (E20 t)
-    answer_by (y.versions name) = option_map_or (λ (place : ℕ). Versions (map span_text (table_spans spans place))) (place_of name tables) (Refused (E04 name))
-    answer_by y.transactions = Transactions (flat_map (begun_lines entries) (reverse entries))
-    answer_by (y.changes t k) = unless_refused (option_or (unknown_refusal t entries) (statement_refusal t k entries)) (changed t k)
-    answer_by (y.commit_changes t) = unless_refused (transaction_refusal t entries) (option_map_or committed (version_of t entries) (Changes []))
-    answer_by (y.conflicts t) = unless_refused (unknown_refusal t entries) (conflicts t)
+    answer_by (y.bare (y.log t)) = if is_known t entries then Lines Log (map entry_text (filter (is_of t) (reverse entries))) else Refused (E20 t)
+    answer_by (y.bare (y.versions name)) = option_map_or (λ (place : ℕ). Lines Versions (map span_text (table_spans spans place))) (place_of name tables) (Refused (E04 name))
+    answer_by (y.bare y.transactions) = Lines Transactions (flat_map (begun_lines entries) (reverse entries))
+    answer_by (y.bare (y.changes t k)) = unless_refused (option_or (unknown_refusal t entries) (statement_refusal t k entries)) (changed t k)
+    answer_by (y.bare (y.commit_changes t)) = unless_refused (transaction_refusal t entries) (option_map_or committed (version_of t entries) (Lines Changes []))
+    answer_by (y.bare (y.conflicts t)) = unless_refused (unknown_refusal t entries) (conflicts t)
     answer_by (y.history name cond) =
         or_refused (λ (select : Select). option_map_or (λ (place : ℕ). history place select) (place_of name tables) (Refused (E04 name))) (checked_query tables (all_of name cond))
     answer_by (y.when query) = when_answer asks entries query
-    answer_by y.serial = serial
-    answer_by y.check = Checked line
+    answer_by (y.bare y.serial) = serial
+    answer_by (y.bare y.check) = Checked line
     answer_by (y.diff first second query) = diff_answer (if are_mixed first second then remade else asks) (what_if_held programs entries) unmade entries first second query
     answer_by (y.causes subject query) = causes_answer remade (what_if_held programs entries) unmade entries subject query
     answer_by (y.ask subject query) = asks subject query

@@ -44,7 +44,7 @@ table_spans tables place = slice_index_or tables place []
 
 -- the rows, in row order, each as often as it occurs
 abbrev pub of_elements : {M : Type 0} → Result (List (Element M)) Refusal → Answered
-of_elements elements = or_refused (λ own. Rows (sorted_by row_cmp (cells_of own))) elements
+of_elements found = or_refused (λ elements. Rows (sorted_by row_cmp (cells_of elements))) found
 
 -- in row order, those of one row in the order of their monomials
 abbrev pub element_cmp : Element Monomial → Element Monomial → Ordering
@@ -63,7 +63,7 @@ grouped (element ∷ elements) = put_first element (grouped elements)
 
 -- each distinct row in row order, with the monomials of all its occurrences in order
 abbrev pub with_monomials : Result (List (Element Monomial)) Refusal → Answered
-with_monomials elements = or_refused (λ own. Listed (grouped (sorted_by element_cmp own))) elements
+with_monomials found = or_refused (λ elements. Listed (grouped (sorted_by element_cmp elements))) found
 
 -- the check of a query comes after the refusal of its version or transaction
 abbrev pub asked : Option Refusal → Result Select Refusal → Result Select Refusal

@@ -23,7 +23,8 @@ use Rattle.gp_versions.specs.declared.span.Span.{Span}
 use Rattle.gp_history.specs.ValueAnswers.{all_elements, history_refusal}
 use Rattle.gp_history.specs.Agreement.{agree}
 use Rattle.gp_ask.specs.declared.answered.Answered.{Answered}
-use Rattle.gp_ask.specs.declared.answered.Answered.TheVariants.{Refused, Versions}
+use Rattle.gp_ask.specs.declared.answered.Answered.TheVariants.{Lines, Refused}
+use Rattle.gp_ask.specs.declared.answered.Heading.TheVariants.{Versions}
 use Rattle.gp_ask.specs.Asking.{of_elements, query_answer, table_spans}
 use Rattle.gp_ask.specs.Printed.{dump_answer, history_answer}
 use Rattle.gp_ask.specs.Remaining.{has_left_out, remaining_answer}
@@ -42,7 +43,7 @@ pattern_of rule = record { kind = kind_of rule.kind; t = rule.t; k = rule.k; n =
 
 -- the row versions of a table
 abbrev pub versions_answer : List ℕ → List (List Span) → Option ℕ → Answered
-versions_answer name tables found = option_map_or (λ (place : ℕ). Versions (map span_text (table_spans tables place))) found (Refused (E04 name))
+versions_answer name tables found = option_map_or (λ (place : ℕ). Lines Versions (map span_text (table_spans tables place))) found (Refused (E04 name))
 
 abbrev pub dump_rows : Dump → y.Point → Select → Answered
 dump_rows dump = dump_answer dump y.rows

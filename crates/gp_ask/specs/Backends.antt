@@ -32,8 +32,8 @@ past_of dump = encoded (as_of unannotated (table_spans dump.tables))
 -- what is given: rows in row order, or the refusal of a stop of transaction t
 abbrev pub Shows : ℕ → Given → Answered → Type 0
 Shows t (Ok rows) answered = answered ≡ Rows (sorted_by row_cmp rows)
-Shows t (Err (exec.Rows j)) answered = answered ≡ Refused (E25 t j)
-Shows t (Err (exec.Ancestry j)) answered = answered ≡ Refused (E26 t j)
+Shows t (Err (exec.Rows k)) answered = answered ≡ Refused (E25 t k)
+Shows t (Err (exec.Ancestry k)) answered = answered ≡ Refused (E26 t k)
 Shows t (Err exec.Answer) answered = answered ≡ Refused E27
 Shows t (Err exec.NoMemory) answered = ⊥
 

@@ -23,7 +23,8 @@ use Rattle.gp_machine.specs.Runs.{run_before}
 use Rattle.gp_reenact.specs.Looking.{looked_refusal}
 use Rattle.gp_versions.specs.declared.span.Span.{Span}
 use Rattle.gp_ask.specs.declared.answered.Answered.{Answered}
-use Rattle.gp_ask.specs.declared.answered.Answered.TheVariants.{Changes}
+use Rattle.gp_ask.specs.declared.answered.Answered.TheVariants.{Lines}
+use Rattle.gp_ask.specs.declared.answered.Heading.TheVariants.{Changes}
 use Rattle.gp_ask.specs.Asking.{table_spans}
 use Rattle.gp_ask.specs.Changes.{change_text, spans_texts}
 use Rattle.gp_ask.specs.Values.{or_refused, unless_refused}
@@ -32,13 +33,13 @@ use Rattle.gp_ask.specs.Values.{or_refused, unless_refused}
 
 -- a row that it changed, before it and after it; an inserted one is given as it is after it, any other as it was before it
 abbrev pub before_of : Statement → List Cell → Option (List Cell)
-before_of (update table sets c) cells = Some cells
-before_of (delete table c) cells = Some cells
+before_of (update table sets cond) cells = Some cells
+before_of (delete table cond) cells = Some cells
 before_of _ cells = None
 
 abbrev pub after_of : Statement → List Cell → Option (List Cell)
-after_of (update table sets c) cells = Some (assigned sets cells)
-after_of (delete table c) cells = None
+after_of (update table sets cond) cells = Some (assigned sets cells)
+after_of (delete table cond) cells = None
 after_of _ cells = Some cells
 
 abbrev pub changed_text : {M : Type 0} → List ℕ → Statement → Annotated M → List ℕ
@@ -52,11 +53,11 @@ abbrev pub changed_texts : {M : Type 0} → List ℕ → Statement → List (Ann
 changed_texts name statement rows = map (changed_text name statement) (sorted_by by_identity rows)
 
 abbrev pub table_changes : {M : Type 0} → List ℕ → Statement → Result (List (Annotated M)) Refusal → Answered
-table_changes name statement rows = or_refused (λ own. Changes (changed_texts name statement own)) rows
+table_changes name statement found = or_refused (λ rows. Lines Changes (changed_texts name statement rows)) found
 
 -- a SELECT changes nothing, whatever its transaction read; given the tables, and what a statement changed of a table
 abbrev pub changes_of : {M : Type 0} → List Table → Option ℕ → Statement → Result (List (Annotated M)) Refusal → Answered
-changes_of tables table statement rows = option_map_or (λ (place : ℕ). table_changes (name_at place tables) statement rows) table (Changes [])
+changes_of tables table statement rows = option_map_or (λ (place : ℕ). table_changes (name_at place tables) statement rows) table (Lines Changes [])
 
 -- what the logged statement k + 1 gives over the stored versions of a dump, where the statements before it ran
 abbrev pub dump_changes : Dump → ℕ → ℕ → Statement → Answered
@@ -67,7 +68,7 @@ dump_changes dump t k statement =
 
 -- a number without a statement changes nothing
 abbrev pub if_any : (Statement → Answered) → Option Statement → Answered
-if_any answer statement = option_map_or answer statement (Changes [])
+if_any answer statement = option_map_or answer statement (Lines Changes [])
 
 abbrev pub changes_to : Dump → ℕ → ℕ → Answered
 changes_to dump t k = unless_refused (changes_refusal t k dump.entries) (if_any (dump_changes dump t (k - 1)) (statement_at t k dump.entries))
@@ -75,10 +76,10 @@ changes_to dump t k = unless_refused (changes_refusal t k dump.entries) (if_any 
 -- ---- a commit
 
 abbrev pub tables_texts : ℕ → List Table → List (List Span) → List (List ℕ)
-tables_texts version tables lists = flat_map (λ (own : Table × List Span). spans_texts own.0.name version None own.1) (zip tables lists)
+tables_texts version tables lists = flat_map (λ (pair : Table × List Span). spans_texts pair.0.name version None pair.1) (zip tables lists)
 
 abbrev pub version_changes : Dump → Option ℕ → Answered
-version_changes dump version = option_map_or (λ (own : ℕ). Changes (tables_texts own (tables_in dump.entries) dump.tables)) version (Changes [])
+version_changes dump found = option_map_or (λ (version : ℕ). Lines Changes (tables_texts version (tables_in dump.entries) dump.tables)) found (Lines Changes [])
 
 abbrev pub commit_changes_to : Dump → ℕ → Answered
 commit_changes_to dump t = unless_refused (transaction_refusal t dump.entries) (version_changes dump (version_of t dump.entries))

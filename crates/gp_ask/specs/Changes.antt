@@ -29,7 +29,8 @@ use Rattle.gp_machine.specs.Runs.{run_before}
 use Rattle.gp_machine.specs.State.{State}
 use Rattle.gp_versions.specs.declared.span.Span.{Span}
 use Rattle.gp_ask.specs.declared.answered.Answered.{Answered}
-use Rattle.gp_ask.specs.declared.answered.Answered.TheVariants.{Changes}
+use Rattle.gp_ask.specs.declared.answered.Answered.TheVariants.{Lines}
+use Rattle.gp_ask.specs.declared.answered.Heading.TheVariants.{Changes}
 use Rattle.gp_ask.specs.Asking.{table_spans}
 use Rattle.gp_ask.specs.Values.{or_refused}
 
@@ -40,8 +41,7 @@ abbrev pub side_text : Option (List Cell) → List ℕ
 side_text side = option_map_or (λ (cells : List Cell). codes " " ++ row_text cells) side []
 
 abbrev pub change_text : List ℕ → Identity → Option (List Cell) → Option (List Cell) → List ℕ
-change_text name id before after =
-    concat (name ∷ codes " " ∷ identity_text id ∷ codes " :" ∷ side_text before ∷ codes " ->" ∷ side_text after ∷ [])
+change_text name id before after = concat (name ∷ codes " " ∷ identity_text id ∷ codes " :" ∷ side_text before ∷ codes " ->" ∷ side_text after ∷ [])
 
 -- ---- a statement
 
@@ -59,9 +59,9 @@ inserted_by t k rows =
 abbrev pub changed_by : ℕ → ℕ → Statement → Database (Unit {0}) → List Change
 changed_by t k (insert table rows) db = inserted_by t k (step unannotated t k (insert table rows) db table)
 changed_by t k (insert_select table select) db = inserted_by t k (step unannotated t k (insert_select table select) db table)
-changed_by t k (update table sets c) db =
-    map (λ (row : Annotated (Unit {0})). (row.identity, (Some row.cells, Some (assigned sets row.cells)))) (filter (λ row. passes c row.cells) (db table))
-changed_by t k (delete table c) db = map (λ (row : Annotated (Unit {0})). (row.identity, (Some row.cells, None))) (filter (λ row. passes c row.cells) (db table))
+changed_by t k (update table sets cond) db =
+    map (λ (row : Annotated (Unit {0})). (row.identity, (Some row.cells, Some (assigned sets row.cells)))) (filter (λ row. passes cond row.cells) (db table))
+changed_by t k (delete table cond) db = map (λ (row : Annotated (Unit {0})). (row.identity, (Some row.cells, None))) (filter (λ row. passes cond row.cells) (db table))
 changed_by t k (read select) db = []
 
 -- their lines, in the order of the identities; rows of one identity, which no history has, are in the order of the table
@@ -75,11 +75,11 @@ abbrev pub changes_over : Dump → ℕ → ℕ → Statement → Answered
 changes_over dump t k statement =
     let past = as_of unannotated (table_spans dump.tables) in
     let changes = given (own_stop unannotated parameters dump.entries (y.after t (suc k)) past) (changed_by t (suc k) statement (run_before unannotated (log_of dump.entries) t k past)) in
-    option_map_or (λ (place : ℕ). or_refused (λ (own : List Change). Changes (change_texts (name_at place (tables_in dump.entries)) own)) changes) (target statement) (Changes [])
+    option_map_or (λ (place : ℕ). or_refused (λ (changed : List Change). Lines Changes (change_texts (name_at place (tables_in dump.entries)) changed)) changes) (target statement) (Lines Changes [])
 
 -- a number without a statement changes nothing
 abbrev pub numbered_changes : Dump → ℕ → ℕ → Answered
-numbered_changes dump t k = option_map_or (changes_over dump t (k - 1)) (statement_at t k dump.entries) (Changes [])
+numbered_changes dump t k = option_map_or (changes_over dump t (k - 1)) (statement_at t k dump.entries) (Lines Changes [])
 
 -- ---- a commit
 
@@ -107,7 +107,7 @@ spans_texts name version last (span ∷ spans) = span_texts name version last sp
 
 -- by table, in the order of creation, and then by identity; the versions are those of the dump, and so are those of a history
 abbrev pub dump_writes : Dump → ℕ → Answered
-dump_writes dump version = Changes (flat_map (λ (own : Table × List Span). spans_texts own.0.name version None own.1) (zip (tables_in dump.entries) dump.tables))
+dump_writes dump version = Lines Changes (flat_map (λ (pair : Table × List Span). spans_texts pair.0.name version None pair.1) (zip (tables_in dump.entries) dump.tables))
 
 -- ---- as a history held it
 
@@ -133,8 +133,8 @@ written_texts tables written before after = flat_map (written_row_texts tables b
 abbrev pub history_changes : State Monomial → ℕ → ℕ → Answered
 history_changes state t k =
     let before = start_by monomials (log_of state.entries) t k state.committed in
-    Changes (written_texts state.catalogue (wrote_by monomials t (suc k) (statement_at t (suc k) state.entries) before) before (state.views t (suc k)))
+    Lines Changes (written_texts state.catalogue (wrote_by monomials t (suc k) (statement_at t (suc k) state.entries) before) before (state.views t (suc k)))
 
 -- the rows that the commit of a version wrote: from the version before to its own
 abbrev pub history_writes : State Monomial → ℕ → Answered
-history_writes state version = Changes (written_texts state.catalogue (state.written version) (state.committed (version - 1)) (state.committed version))
+history_writes state version = Lines Changes (written_texts state.catalogue (state.written version) (state.committed (version - 1)) (state.committed version))

@@ -16,7 +16,7 @@ use Rattle.gp_ask.specs.Hypothetical.{replayed_dump}
 use Rattle.gp_ask.specs.Made.{unmade_refusal}
 
 abbrev pub what_if_answer : List Entry → List y.LogChange → y.Subject → y.Query → Answered
-what_if_answer entries changes subject query = changed_answer (λ own. query_to (replayed_dump own)) (changed_log parameters entries changes) subject query
+what_if_answer entries changes subject query = changed_answer (λ log. query_to (replayed_dump log)) (changed_log parameters entries changes) subject query
 
 abbrev pub computed_answer : Dump → y.Question → Answered
 computed_answer dump (y.what_if changes subject query) = what_if_answer dump.entries changes subject query

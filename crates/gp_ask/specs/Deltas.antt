@@ -13,8 +13,7 @@ pub data Signed : Type 0 where
 -- a row of the first list beside the second list, where `rest` gives the difference of what follows the row
 abbrev pub delta_from : List Cell → (List (List Cell) → List Signed) → List (List Cell) → List Signed
 delta_from row rest [] = removed row ∷ rest []
-delta_from row rest (other ∷ others) =
-    by_order (row_cmp row other) (removed row ∷ rest (other ∷ others)) (rest others) (added other ∷ delta_from row rest others)
+delta_from row rest (other ∷ others) = by_order (row_cmp row other) (removed row ∷ rest (other ∷ others)) (rest others) (added other ∷ delta_from row rest others)
 
 -- in row order: a row of either list that the other one does not have at its place
 abbrev pub delta : List (List Cell) → List (List Cell) → List Signed

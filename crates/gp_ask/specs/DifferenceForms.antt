@@ -9,7 +9,8 @@ use Rattle.gp_grammar.specs.Syntax as y
 use Rattle.gp_machine.specs.Entries.{Entry}
 use Rattle.gp_dump.specs.Dumps.{Dump}
 use Rattle.gp_ask.specs.declared.answered.Answered.{Answered}
-use Rattle.gp_ask.specs.declared.answered.Answered.TheVariants.{Causes}
+use Rattle.gp_ask.specs.declared.answered.Answered.TheVariants.{Lines}
+use Rattle.gp_ask.specs.declared.answered.Heading.TheVariants.{Causes}
 use Rattle.gp_ask.specs.Deltas.{delta}
 use Rattle.gp_ask.specs.Differences.{cause_of, diff_lines, rows_in, statement_text, written_by}
 use Rattle.gp_ask.specs.Hypothetical.{replayed_dump}
@@ -35,19 +36,19 @@ committed_writes entries = written_by entries entries
 
 -- how many rows an answer would lose without a statement, and how many it would gain
 abbrev pub sizes_text : ℕ × ℕ → ℕ → ℕ → List ℕ
-sizes_text own lost gained = concat (statement_text own ∷ codes " -" ∷ decimal lost ∷ codes " +" ∷ decimal gained ∷ [])
+sizes_text statement lost gained = concat (statement_text statement ∷ codes " -" ∷ decimal lost ∷ codes " +" ∷ decimal gained ∷ [])
 
 -- what the question would be refused for without it
 abbrev pub refused_text : ℕ × ℕ → Refusal → List ℕ
-refused_text own refusal = concat (statement_text own ∷ codes " : " ∷ refusal_text refusal ∷ [])
+refused_text statement refusal = concat (statement_text statement ∷ codes " : " ∷ refusal_text refusal ∷ [])
 
 -- given the answers without each of these statements
 abbrev pub all_cause_lines : (ℕ × ℕ → Answered) → List (ℕ × ℕ) → List (List Cell) → List (List ℕ)
-all_cause_lines without statements rows = flat_map (λ own. cause_of rows own (rows_in (without own))) statements
+all_cause_lines without statements rows = flat_map (λ statement. cause_of rows statement (rows_in (without statement))) statements
 
 abbrev pub causes_of : (ℕ × ℕ → Answered) → List (ℕ × ℕ) → Result (List (List Cell)) Refusal → Answered
-causes_of without statements rows = or_refused (λ own. Causes (all_cause_lines without statements own)) rows
+causes_of without statements found = or_refused (λ rows. Lines Causes (all_cause_lines without statements rows)) found
 
 -- the answer without a statement
 abbrev pub without_in : (List y.LogChange → y.Subject → y.Query → Answered) → y.Subject → y.Query → ℕ × ℕ → Answered
-without_in changes subject query own = changes (y.drop own.0 own.1 ∷ []) subject query
+without_in changes subject query statement = changes (y.drop statement.0 statement.1 ∷ []) subject query

@@ -14,7 +14,8 @@ use Rattle.gp_grammar.specs.Syntax as y
 use Rattle.gp_log.specs.Parameters.{parameters}
 use Rattle.gp_machine.specs.Entries.{Entry, Ran, statement_count, version_of}
 use Rattle.gp_ask.specs.declared.answered.Answered.{Answered}
-use Rattle.gp_ask.specs.declared.answered.Answered.TheVariants.{Causes, Diff, Refused, Rows}
+use Rattle.gp_ask.specs.declared.answered.Answered.TheVariants.{Diff, Lines, Refused, Rows}
+use Rattle.gp_ask.specs.declared.answered.Heading.TheVariants.{Causes}
 use Rattle.gp_ask.specs.Deltas.{Signed, added_in, delta, removed_in, with_sign}
 use Rattle.gp_ask.specs.Hypothetical.{asking_refusal}
 use Rattle.gp_ask.specs.Values.{or_refused, unless_refused}
@@ -43,18 +44,18 @@ written_by entries (Ran line session command t statement ∷ older) =
 written_by entries (_ ∷ older) = written_by entries older
 
 abbrev pub statement_text : ℕ × ℕ → List ℕ
-statement_text own = concat (decimal own.0 ∷ codes "." ∷ decimal own.1 ∷ [])
+statement_text statement = concat (decimal statement.0 ∷ codes "." ∷ decimal statement.1 ∷ [])
 
 -- how many rows an answer would lose without a statement, and how many it would gain; where it would be the same there is no line
 abbrev pub cause_lines : ℕ × ℕ → List Signed → List (List ℕ)
-cause_lines own [] = []
-cause_lines own (line ∷ lines) =
-    concat (statement_text own ∷ codes " -" ∷ decimal (removed_in (line ∷ lines)) ∷ codes " +" ∷ decimal (added_in (line ∷ lines)) ∷ []) ∷ []
+cause_lines statement [] = []
+cause_lines statement (line ∷ lines) =
+    concat (statement_text statement ∷ codes " -" ∷ decimal (removed_in (line ∷ lines)) ∷ codes " +" ∷ decimal (added_in (line ∷ lines)) ∷ []) ∷ []
 
 -- given the answer, and the one without the statement, or what the question would be refused for
 abbrev pub cause_of : List (List Cell) → ℕ × ℕ → Result (List (List Cell)) Refusal → List (List ℕ)
-cause_of rows own (Ok others) = cause_lines own (delta rows others)
-cause_of rows own (Err refusal) = concat (statement_text own ∷ codes " : " ∷ refusal_text refusal ∷ []) ∷ []
+cause_of rows statement (Ok others) = cause_lines statement (delta rows others)
+cause_of rows statement (Err refusal) = concat (statement_text statement ∷ codes " : " ∷ refusal_text refusal ∷ []) ∷ []
 
 -- ---- what refuses a side, whatever the rows are
 
@@ -83,7 +84,7 @@ module _ (asks : y.Subject → y.Query → Answered) (changes : List y.LogChange
   -- the answer to the question of a side
   abbrev pub side_answer : y.Side → y.Query → Answered
   side_answer (y.as_is subject) query = asks subject query
-  side_answer (y.changed own subject) query = changes own subject query
+  side_answer (y.changed log_changes subject) query = changes log_changes subject query
 
   -- the first answer is refused first
   abbrev pub diff_answer : Option Refusal → List Entry → y.Side → y.Side → y.Query → Answered
@@ -95,5 +96,5 @@ module _ (asks : y.Subject → y.Query → Answered) (changes : List y.LogChange
   abbrev pub causes_answer : Option Refusal → List Entry → y.Subject → y.Query → Answered
   causes_answer unmade entries subject query =
       unless_refused (option_or (asking_refusal entries subject query) unmade)
-      (or_refused (λ rows. Causes (flat_map (λ own. cause_of rows own (rows_in (changes (y.drop own.0 own.1 ∷ []) subject query))) (written_by entries entries)))
+      (or_refused (λ rows. Lines Causes (flat_map (λ statement. cause_of rows statement (rows_in (changes (y.drop statement.0 statement.1 ∷ []) subject query))) (written_by entries entries)))
       (rows_in (asks subject query)))

@@ -32,7 +32,7 @@ module _ (programs : Programs) where
   abbrev pub ExplainsQuestion : List Entry → y.Question → Type 0
   ExplainsQuestion entries (y.ask (y.of_state (y.explain prov) point) query) = ExplainsAsk entries (log_refusal entries point) prov point query
   ExplainsQuestion entries (y.what_if changes (y.of_state (y.explain prov) point) query) =
-      IfOk (changed_log parameters entries changes) (λ (own : List Entry). ExplainsAsk own (log_refusal own point) prov point query)
+      IfOk (changed_log parameters entries changes) (λ (changed : List Entry). ExplainsAsk changed (log_refusal changed point) prov point query)
   ExplainsQuestion entries (y.explain_saw t k query) = ExplainsAsk entries (seen_refusal t k entries) false (y.after t k) query
   ExplainsQuestion entries question = Unit {0}
 

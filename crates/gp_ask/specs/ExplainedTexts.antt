@@ -23,6 +23,6 @@ module _ (entries : List Entry) where
   abbrev pub ExplainsQuestion : y.Question → Type 0
   ExplainsQuestion (y.ask (y.of_state (y.explain prov) point) query) = ExplainsAsk entries (log_refusal entries point) prov point query
   ExplainsQuestion (y.what_if changes (y.of_state (y.explain prov) point) query) =
-      IfOk (changed_log parameters entries changes) (λ (own : List Entry). ExplainsAsk own (log_refusal own point) prov point query)
+      IfOk (changed_log parameters entries changes) (λ (changed : List Entry). ExplainsAsk changed (log_refusal changed point) prov point query)
   ExplainsQuestion (y.explain_saw t k query) = ExplainsAsk entries (seen_refusal t k entries) false (y.after t k) query
   ExplainsQuestion question = Unit {0}

@@ -1,11 +1,9 @@
 -- Machinery: the history of rows, as the code makes it: which identities are asked for, and the lines of the rows that a statement changed.
-use Rattle.std.specs.Prelude.{◌≡◌, ◌<◌, ◌≤◌, ℕ, zero, suc, ◌==◌, ◌&&◌, nat_lt, not, Bool, true, false, List, [], ◌∷◌, ◌++◌, filter, length, map, Option, Some, None, if◌then◌else◌}
+use Rattle.std.specs.Prelude.{◌≡◌, ◌<◌, ◌≤◌, ℕ, zero, suc, ◌==◌, ◌&&◌, not, Bool, true, false, List, [], ◌∷◌, ◌++◌, filter, map, Option, Some, None, if◌then◌else◌}
 use Rattle.std.specs.List.{flat_map, list_all}
 use Rattle.std.specs.Option.{option_map_or}
 use Rattle.gp_base.specs.declared.cell.Cell.{Cell}
-use Rattle.gp_base.specs.declared.refusal.Refusal.TheVariants.{E04, E27}
-use Rattle.gp_base.specs.declared.limit.TheConstants.{MAX_ANSWER_ROWS}
-use Rattle.gp_base.specs.Order.{row_cmp, sorted_by}
+use Rattle.gp_base.specs.declared.refusal.Refusal.TheVariants.{E04}
 use Rattle.gp_base.specs.Catalogs.{place_of}
 use Rattle.gp_base.specs.Identities.{Identity, same_identity}
 use Rattle.gp_expr.specs.ExpressionForms.{cond_is_simple}
@@ -20,12 +18,12 @@ use Rattle.gp_machine.specs.Entries.{Entry, committer_of, statement_at, statemen
 use Rattle.gp_reenact.specs.LookingForms.{system_row}
 use Rattle.gp_versions.specs.declared.span.Span.{Span}
 use Rattle.gp_ask.specs.declared.answered.Answered.{Answered}
-use Rattle.gp_ask.specs.declared.answered.Answered.TheVariants.{History, Refused}
+use Rattle.gp_ask.specs.declared.answered.Answered.TheVariants.{Refused}
 use Rattle.gp_ask.specs.ChangeForms.{after_of, before_of}
 use Rattle.gp_ask.specs.Keyed.{cells_of, identity_of}
 use Rattle.gp_ask.specs.Looked.{rows_of}
 use Rattle.gp_ask.specs.RowHistories.{all_of, dump_history, history_text}
-use Rattle.gp_ask.specs.RowLines.{RowLine, few, keyed_from, row_line, row_texts}
+use Rattle.gp_ask.specs.RowLines.{RowLine, few, keyed_from, row_line}
 use Rattle.gp_ask.specs.Values.{or_refused}
 
 abbrev pub history_to : Dump → y.Bytes → Option y.Term → Answered
@@ -36,7 +34,7 @@ history_to dump name cond =
 -- ---- a condition
 
 abbrev pub branch_meets : Branch → List Cell → Bool
-branch_meets branch cells = option_map_or (λ c. passes c cells) branch.cond true
+branch_meets branch cells = option_map_or (λ cond. passes cond cells) branch.cond true
 
 abbrev pub is_simple_branch : Branch → Bool
 is_simple_branch branch = option_map_or cond_is_simple branch.cond true
@@ -60,7 +58,7 @@ is_found_by_identity table statement = option_map_or (is_by_identity table) stat
 
 -- the first statements of a transaction, this many
 abbrev pub AreByIdentity : ℕ → ℕ → ℕ → List Entry → Type 0
-AreByIdentity table t n entries = (k : ℕ) → 0 < k → k ≤ n → is_found_by_identity table (statement_at t k entries) ≡ true
+AreByIdentity table t count entries = (k : ℕ) → 0 < k → k ≤ count → is_found_by_identity table (statement_at t k entries) ≡ true
 
 -- of row versions, those of the table with these identities
 abbrev pub narrowed : (ℕ → List Span) → ℕ → (Identity → Bool) → ℕ → List Span
@@ -100,10 +98,6 @@ module _ (dump : Dump) (table : ℕ) (is_asked : Identity → Bool) (version : �
 -- of the first versions, this many
 abbrev pub versions_changes : Dump → ℕ → (Identity → Bool) → ℕ → List RowLine
 versions_changes dump table is_asked zero = []
-versions_changes dump table is_asked (suc u) =
-    let t = committer_of (suc u) dump.entries in
-    versions_changes dump table is_asked u ++ first_changes dump table is_asked (suc u) t (statement_count t dump.entries)
-
--- the answer of the rows of lines
-abbrev pub listed : List (List Cell) → Answered
-listed rows = if nat_lt MAX_ANSWER_ROWS (length rows) then Refused E27 else History (row_texts (sorted_by row_cmp rows))
+versions_changes dump table is_asked (suc version) =
+    let t = committer_of (suc version) dump.entries in
+    versions_changes dump table is_asked version ++ first_changes dump table is_asked (suc version) t (statement_count t dump.entries)

@@ -63,4 +63,4 @@ module _ (programs : Programs) where
   -- by the changed log, or the refusal of a change: what the history held that would have been, its rows and their provenance
   abbrev pub what_if_held : List Entry → List y.LogChange → y.Subject → y.Query → Answered
   what_if_held entries changes subject query =
-      or_refused (λ own. remade_answer (query_held programs (replayed_state monomials (tables_in own) own)) own subject query) (changed_log parameters entries changes)
+      or_refused (λ log. remade_answer (query_held programs (replayed_state monomials (tables_in log) log)) log subject query) (changed_log parameters entries changes)

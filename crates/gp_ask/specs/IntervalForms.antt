@@ -1,5 +1,5 @@
 -- Machinery: intervals, as the code makes them: one pass over the sorted answers of two versions carries those that go on, and ends the others.
-use Rattle.std.specs.Prelude.{◌≡◌, ℕ, zero, suc, ◌-◌, ◌≤◌, ◌==◌, ◌&&◌, ◌||◌, nat_le, nat_lt, pos, Bool, List, [], ◌∷◌, ◌++◌, codes, length, map, Option, Some, None, Result, Ok, Err, if◌then◌else◌}
+use Rattle.std.specs.Prelude.{◌≡◌, ℕ, zero, suc, ◌-◌, ◌≤◌, ◌==◌, ◌&&◌, ◌||◌, nat_le, pos, Bool, List, [], ◌∷◌, ◌++◌, codes, map, Option, Some, None, Result, Ok, Err}
 use Rattle.std.specs.FinMap.Entries.{by_order}
 use Rattle.std.specs.List.{list_any, zip}
 use Rattle.std.specs.Fmt.{decimal}
@@ -7,10 +7,8 @@ use Rattle.std.specs.Option.{option_map, option_map_or, option_or}
 use Rattle.std.specs.Result.{result_err, result_unwrap_or}
 use Rattle.gp_base.specs.declared.cell.Cell.{Cell}
 use Rattle.gp_base.specs.declared.cell.Cell.TheVariants as cell
-use Rattle.gp_base.specs.declared.limit.TheConstants.{MAX_ANSWER_ROWS}
 use Rattle.gp_base.specs.declared.refusal.Refusal.{Refusal}
-use Rattle.gp_base.specs.declared.refusal.Refusal.TheVariants.{E27}
-use Rattle.gp_base.specs.Order.{row_cmp, sorted_by}
+use Rattle.gp_base.specs.Order.{row_cmp}
 use Rattle.gp_grammar.specs.Syntax as y
 use Rattle.gp_algebra.specs.Statements.{Branch, Select}
 use Rattle.gp_dump.specs.Dumps.{Dump}
@@ -20,14 +18,15 @@ use Rattle.gp_base.specs.declared.stop.Stop.TheVariants as stop
 use Rattle.gp_versions.specs.declared.span.Span.{Span}
 use Rattle.gp_versions.specs.Spans.{is_before_end}
 use Rattle.gp_ask.specs.declared.answered.Answered.{Answered}
-use Rattle.gp_ask.specs.declared.answered.Answered.TheVariants.{Refused, When}
+use Rattle.gp_ask.specs.declared.answered.Answered.TheVariants.{Refused}
+use Rattle.gp_ask.specs.declared.answered.Heading.TheVariants.{When}
 use Rattle.gp_ask.specs.Asking.{table_spans}
 use Rattle.gp_ask.specs.AskingForms.{dump_rows}
 use Rattle.gp_ask.specs.Changes.{ends_at}
 use Rattle.gp_ask.specs.Intervals.{Interval, interval_lines, interval_text, intervals, when_answer}
 use Rattle.gp_ask.specs.Differences.{rows_in}
 use Rattle.gp_ask.specs.Printed.{query_to}
-use Rattle.gp_ask.specs.RowLines.{row_texts}
+use Rattle.gp_ask.specs.RowLines.{listed}
 use Rattle.gp_ask.specs.Values.{unless_refused}
 
 abbrev pub when_to : Dump → y.Query → Answered
@@ -35,7 +34,7 @@ when_to dump query = when_answer (query_to dump) dump.entries query
 
 -- Of the law `intervals_agree_with_versions`: an interval that has the version.
 abbrev pub has_version : ℕ → Interval → Bool
-has_version version own = nat_le own.from version && is_before_end version own.to
+has_version version interval = nat_le interval.from version && is_before_end version interval.to
 
 -- ---- versions that wrote a table of the query
 
@@ -58,11 +57,7 @@ abbrev pub end_cell : Option ℕ → Cell
 end_cell to = option_map_or (λ version. cell.Int (pos version)) to (cell.Text (codes "-"))
 
 abbrev pub interval_row : Interval → List Cell
-interval_row own = own.row ++ cell.Int (pos own.from) ∷ end_cell own.to ∷ cell.Text (interval_text own) ∷ []
-
--- the answer of the rows of intervals
-abbrev pub listed : List (List Cell) → Answered
-listed rows = if nat_lt MAX_ANSWER_ROWS (length rows) then Refused E27 else When (row_texts (sorted_by row_cmp rows))
+interval_row interval = interval.row ++ cell.Int (pos interval.from) ∷ end_cell interval.to ∷ cell.Text (interval_text interval) ∷ []
 
 -- ---- from one version to the next
 
@@ -71,26 +66,26 @@ abbrev pub Open : Type 0
 Open = List Cell × ℕ
 
 abbrev pub ended : ℕ → Open → Interval
-ended version own = record { row = own.0; from = own.1; to = Some version }
+ended version opened = record { row = opened.0; from = opened.1; to = Some version }
 
 module _ (version : ℕ) where
   -- at which version the interval of each row began: the rows of both answers are in order
   abbrev pub carried_from : Open → (List (List Cell) → List ℕ) → List (List Cell) → List ℕ
-  carried_from own rest [] = []
-  carried_from own rest (row ∷ rows) = by_order (row_cmp own.0 row) (rest (row ∷ rows)) (own.1 ∷ rest rows) (version ∷ carried_from own rest rows)
+  carried_from opened rest [] = []
+  carried_from opened rest (row ∷ rows) = by_order (row_cmp opened.0 row) (rest (row ∷ rows)) (opened.1 ∷ rest rows) (version ∷ carried_from opened rest rows)
 
   abbrev pub carried : List Open → List (List Cell) → List ℕ
   carried [] rows = map (λ row. version) rows
-  carried (own ∷ old) rows = carried_from own (carried old) rows
+  carried (opened ∷ old) rows = carried_from opened (carried old) rows
 
   -- the intervals that end
   abbrev pub closed_from : Open → (List (List Cell) → List Interval) → List (List Cell) → List Interval
-  closed_from own rest [] = ended version own ∷ rest []
-  closed_from own rest (row ∷ rows) = by_order (row_cmp own.0 row) (ended version own ∷ rest (row ∷ rows)) (rest rows) (closed_from own rest rows)
+  closed_from opened rest [] = ended version opened ∷ rest []
+  closed_from opened rest (row ∷ rows) = by_order (row_cmp opened.0 row) (ended version opened ∷ rest (row ∷ rows)) (rest rows) (closed_from opened rest rows)
 
   abbrev pub closed : List Open → List (List Cell) → List Interval
   closed [] rows = []
-  closed (own ∷ old) rows = closed_from own (closed old) rows
+  closed (opened ∷ old) rows = closed_from opened (closed old) rows
 
 -- ---- over the versions
 
@@ -106,7 +101,7 @@ module _ (answers : ℕ → List (List Cell)) where
   closed_upto (suc version) = closed_upto version ++ closed (suc version) (open_at version) (answers (suc version))
 
 abbrev pub still_open : Open → Interval
-still_open own = record { row = own.0; from = own.1; to = None }
+still_open opened = record { row = opened.0; from = opened.1; to = None }
 
 -- ---- of a checked query
 
@@ -151,6 +146,6 @@ module _ (dump : Dump) (select : Select) where
 
   -- rows of intervals that answer the query, or its refusal
   abbrev pub AreIntervals : {X : Type 0} → (X → List (List Cell)) → Result X Stop → Type 0
-  AreIntervals view (Ok found) = listed (view found) ≡ checked_when
+  AreIntervals view (Ok found) = listed When (view found) ≡ checked_when
   AreIntervals view (Err (stop.Refused refusal)) = Refused refusal ≡ checked_when
   AreIntervals view (Err stop.NoMemory) = Unit {0}

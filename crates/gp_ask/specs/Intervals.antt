@@ -17,7 +17,8 @@ use Rattle.gp_grammar.specs.Syntax as y
 use Rattle.gp_log.specs.Parameters.{parameters}
 use Rattle.gp_machine.specs.Entries.{Entry, versions_in}
 use Rattle.gp_ask.specs.declared.answered.Answered.{Answered}
-use Rattle.gp_ask.specs.declared.answered.Answered.TheVariants.{Refused, When}
+use Rattle.gp_ask.specs.declared.answered.Answered.TheVariants.{Lines, Refused}
+use Rattle.gp_ask.specs.declared.answered.Heading.TheVariants.{When}
 use Rattle.gp_ask.specs.Differences.{rows_in}
 use Rattle.gp_ask.specs.Values.{unless_refused}
 
@@ -40,19 +41,19 @@ numbered before (row ∷ rows) = (row, suc (times row before)) ∷ numbered (row
 
 -- given the answers over the versions
 module _ (answers : ℕ → List (List Cell)) where
-  -- The first version since which each answer up to this one has the row m times at least; this one has it so often.
+  -- The first version since which each answer up to this one has the row `count` times at least; this one has it so often.
   abbrev pub first_with : List Cell → ℕ → ℕ → ℕ
-  first_with row m zero = zero
-  first_with row m (suc version) = if nat_le m (times row (answers version)) then first_with row m version else suc version
+  first_with row count zero = zero
+  first_with row count (suc version) = if nat_le count (times row (answers version)) then first_with row count version else suc version
 
   -- the interval up to a version in whose answer the row is, with the version behind it, if there is one
   abbrev pub interval_upto : ℕ → Option ℕ → List Cell × ℕ → Interval
-  interval_upto version to own = record { row = own.0; from = first_with own.0 own.1 version; to = to }
+  interval_upto version to row = record { row = row.0; from = first_with row.0 row.1 version; to = to }
 
   -- those that end with a version: the next one has the row fewer times
   abbrev pub ending_with : ℕ → List Interval
   ending_with version =
-      map (interval_upto version (Some (suc version))) (filter (λ (own : List Cell × ℕ). nat_lt (times own.0 (answers (suc version))) own.1) (numbered [] (answers version)))
+      map (interval_upto version (Some (suc version))) (filter (λ (row : List Cell × ℕ). nat_lt (times row.0 (answers (suc version))) row.1) (numbered [] (answers version)))
 
   -- those that end with one of the first versions, this many
   abbrev pub ending_before : ℕ → List Interval
@@ -73,13 +74,13 @@ end_cmp (Some to) None = Less
 end_cmp (Some to) (Some other) = nat_cmp to other
 
 abbrev pub interval_cmp : Interval → Interval → Ordering
-interval_cmp own other = ordering_then (row_cmp own.row other.row) (ordering_then (nat_cmp own.from other.from) (end_cmp own.to other.to))
+interval_cmp interval other = ordering_then (row_cmp interval.row other.row) (ordering_then (nat_cmp interval.from other.from) (end_cmp interval.to other.to))
 
 abbrev pub interval_text : Interval → List ℕ
-interval_text own = concat (row_text own.row ∷ codes " : " ∷ decimal own.from ∷ codes " " ∷ option_map_or decimal own.to (codes "-") ∷ [])
+interval_text interval = concat (row_text interval.row ∷ codes " : " ∷ decimal interval.from ∷ codes " " ∷ option_map_or decimal interval.to (codes "-") ∷ [])
 
 abbrev pub interval_lines : List Interval → Answered
-interval_lines own = if nat_lt parameters.answer (length own) then Refused E27 else When (map interval_text (sorted_by interval_cmp own))
+interval_lines found = if nat_lt parameters.answer (length found) then Refused E27 else Lines When (map interval_text (sorted_by interval_cmp found))
 
 -- ---- by the answers to queries
 

@@ -19,17 +19,17 @@ use Rattle.gp_ask.specs.declared.looking.WritingStmt.{WritingStmt}
 use Rattle.gp_ask.specs.Asking.{table_spans}
 
 -- the log has it
-pub record IsWriting (entries : List Entry) (own : WritingStmt) : Type 0 where
-  pub known : is_known own.t entries ≡ true
-  pub first : 0 < own.k
-  pub most : own.k ≤ statement_count own.t entries
-  pub here : statement_at own.t own.k entries ≡ Some (statement_view own.stmt.now)
-  pub target : target (statement_view own.stmt.now) ≡ Some own.table
+pub record IsWriting (entries : List Entry) (writing : WritingStmt) : Type 0 where
+  pub known : is_known writing.t entries ≡ true
+  pub first : 0 < writing.k
+  pub most : writing.k ≤ statement_count writing.t entries
+  pub here : statement_at writing.t writing.k entries ≡ Some (statement_view writing.stmt.now)
+  pub target : target (statement_view writing.stmt.now) ≡ Some writing.table
 
 -- the statement of a number, if it writes a table
 abbrev pub IsFound : ℕ → ℕ → List Entry → Option WritingStmt → Type 0
 IsFound t k entries None = option_and_then target (statement_at t k entries) ≡ None
-IsFound t k entries (Some own) = (own.t ≡ t) × ((own.k ≡ k) × IsWriting entries own)
+IsFound t k entries (Some writing) = (writing.t ≡ t) × ((writing.k ≡ k) × IsWriting entries writing)
 
 -- the first stop of the first statements of a transaction, this many, and of all of them
 abbrev pub stop_at : Dump → ℕ → ℕ → Option Refusal
@@ -50,7 +50,7 @@ may_stop statement = false
 -- the statement of a number, if it may pass one
 abbrev pub IsStopping : ℕ → ℕ → List Entry → Option WritingStmt → Type 0
 IsStopping t k entries None = (statement : Statement) → statement_at t k entries ≡ Some statement → may_stop statement ≡ false
-IsStopping t k entries (Some own) = (own.t ≡ t) × ((own.k ≡ k) × IsWriting entries own)
+IsStopping t k entries (Some writing) = (writing.t ≡ t) × ((writing.k ≡ k) × IsWriting entries writing)
 
 -- statements of these numbers pass no limit, whatever they read
 abbrev pub NoneStops : ℕ → ℕ → ℕ → List Entry → Type 0
@@ -59,7 +59,7 @@ NoneStops t low high entries = (k : ℕ) → low < k → k ≤ high → (stateme
 -- the last statement that may pass one, or there is none
 abbrev pub IsLastStopping : ℕ → List Entry → Option WritingStmt → Type 0
 IsLastStopping t entries None = NoneStops t 0 (statement_count t entries) entries
-IsLastStopping t entries (Some own) = (own.t ≡ t) × (IsWriting entries own × NoneStops t own.k (statement_count t entries) entries)
+IsLastStopping t entries (Some writing) = (writing.t ≡ t) × (IsWriting entries writing × NoneStops t writing.k (statement_count t entries) entries)
 
 -- ---- a row with its identity and its mark behind its cells
 

@@ -70,7 +70,7 @@ operations_of named.Witness = witness
 
 -- the refusal of a number that stands for no element
 abbrev pub number_refusal : SemiringName → Option ℕ → Option Refusal
-number_refusal name number = option_map (λ n. E28 n (name_text name)) number
+number_refusal name found = option_map (λ number. E28 number (name_text name)) found
 
 module _ (semiring : Operations) (rules : List Rule × Option ℕ) where
   -- the value of a token by the rules

@@ -31,9 +31,6 @@ history_answer = asking.history_answer program_lines
 abbrev pub query_held : State Monomial → y.Subject → y.Query → Answered
 query_held = subjects.query_held program_lines
 
-abbrev pub ask_held : State Monomial → y.How → y.Point → y.Query → Answered
-ask_held state how point = query_held state (y.of_state how point)
-
 abbrev pub remade_answer : (y.Subject → y.Query → Answered) → List Entry → y.Subject → y.Query → Answered
 remade_answer = hypothetical.remade_answer program_lines
 

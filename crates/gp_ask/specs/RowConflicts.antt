@@ -29,7 +29,8 @@ use Rattle.gp_machine.specs.Runs.{run_before}
 use Rattle.gp_machine.specs.State.{State}
 use Rattle.gp_versions.specs.declared.span.Span.{Span}
 use Rattle.gp_ask.specs.declared.answered.Answered.{Answered}
-use Rattle.gp_ask.specs.declared.answered.Answered.TheVariants.{Conflicts}
+use Rattle.gp_ask.specs.declared.answered.Answered.TheVariants.{Lines}
+use Rattle.gp_ask.specs.declared.answered.Heading.TheVariants.{Conflicts}
 use Rattle.gp_ask.specs.Asking.{table_spans}
 use Rattle.gp_ask.specs.Changes.{ends_at}
 use Rattle.gp_ask.specs.Values.{unless_refused}
@@ -50,18 +51,18 @@ conflict_text name id base t version =
 
 -- by table and then by identity
 abbrev pub based_cmp : Based → Based → Ordering
-based_cmp = on (λ (own : Based). own.pair) written_cmp
+based_cmp = on (λ (row : Based). row.pair) written_cmp
 
 -- given which rows the commit of a version wrote
 module _ (entries : List Entry) (tables : List Table) (wrote : ℕ → Written → Bool) where
   abbrev pub conflict_lines : ℕ → Based → List (List ℕ)
-  conflict_lines upto own =
-      option_map_or (λ version. conflict_text (name_at own.pair.table tables) own.pair.identity own.base (committer_of version entries) version ∷ [])
-      (first_writer (λ version. wrote version own.pair) own.base (upto - own.base)) []
+  conflict_lines upto row =
+      option_map_or (λ version. conflict_text (name_at row.pair.table tables) row.pair.identity row.base (committer_of version entries) version ∷ [])
+      (first_writer (λ version. wrote version row.pair) row.base (upto - row.base)) []
 
   -- of the rows that a transaction wrote, in order
   abbrev pub conflicts_of : ℕ → List Based → Answered
-  conflicts_of t written = Conflicts (flat_map (conflict_lines (commits_before_end t entries)) (sorted_by based_cmp written))
+  conflicts_of t written = Lines Conflicts (flat_map (conflict_lines (commits_before_end t entries)) (sorted_by based_cmp written))
 
 -- ---- from a dump
 
@@ -76,7 +77,7 @@ dump_written dump t (suc k) =
 -- each row once, with its first base
 abbrev pub firsts : List Based → List Based
 firsts [] = []
-firsts (own ∷ others) = own ∷ filter (λ other. not (is_eq (based_cmp own other))) (firsts others)
+firsts (row ∷ others) = row ∷ filter (λ other. not (is_eq (based_cmp row other))) (firsts others)
 
 -- a row version begins or ends with the version
 abbrev pub spans_wrote : List Span → Identity → ℕ → Bool

@@ -26,7 +26,8 @@ use Rattle.gp_machine.specs.Runs.{run_before}
 use Rattle.gp_machine.specs.State.{State}
 use Rattle.gp_versions.specs.declared.span.Span.{Span}
 use Rattle.gp_ask.specs.declared.answered.Answered.{Answered}
-use Rattle.gp_ask.specs.declared.answered.Answered.TheVariants.{History, Refused}
+use Rattle.gp_ask.specs.declared.answered.Answered.TheVariants.{Lines, Refused}
+use Rattle.gp_ask.specs.declared.answered.Heading.TheVariants.{History}
 use Rattle.gp_ask.specs.Asking.{table_spans}
 use Rattle.gp_ask.specs.Changes.{Change, cells_in, changed_by, side_text}
 use Rattle.gp_ask.specs.Values.{unless_refused}
@@ -37,7 +38,7 @@ all_of table cond = record { items = y.star; from = record { table = table; name
 
 -- the WHERE of the checked query is true of a row
 abbrev pub meets : Select → List Cell → Bool
-meets select cells = list_all (λ (branch : Branch). option_map_or (λ c. passes c cells) branch.cond true) select
+meets select cells = list_all (λ (branch : Branch). option_map_or (λ cond. passes cond cells) branch.cond true) select
 
 abbrev pub history_text : ℕ → ℕ → ℕ → Change → List ℕ
 history_text version t k change =
@@ -55,14 +56,14 @@ module _ (entries : List Entry) (is_asked : Identity → Bool) (changes : ℕ �
   -- those of the first versions, this many
   abbrev pub version_lines : ℕ → List (Identity × List ℕ)
   version_lines zero = []
-  version_lines (suc u) = version_lines u ++ statement_lines (suc u) (statement_count (committer_of (suc u) entries) entries)
+  version_lines (suc version) = version_lines version ++ statement_lines (suc version) (statement_count (committer_of (suc version) entries) entries)
 
   -- by identity; those of one identity stay in their order
   abbrev pub history_of : Answered
   history_of =
       let lines = version_lines (versions_in entries) in
       if nat_lt parameters.answer (length lines) then Refused E27
-      else History (map (λ (line : Identity × List ℕ). line.1) (sorted_by (λ (line other : Identity × List ℕ). identity_cmp line.0 other.0) lines))
+      else Lines History (map (λ (line : Identity × List ℕ). line.1) (sorted_by (λ (line other : Identity × List ℕ). identity_cmp line.0 other.0) lines))
 
 -- ---- from a dump
 
@@ -82,8 +83,8 @@ dump_changed dump table t k =
 -- the first stop of the transactions that made the first versions, this many
 abbrev pub stop_upto : Dump → ℕ → Option Refusal
 stop_upto dump zero = None
-stop_upto dump (suc u) =
-    option_or (stop_upto dump u) (own_stop unannotated parameters dump.entries (y.Point.commit (committer_of (suc u) dump.entries)) (as_of unannotated (table_spans dump.tables)))
+stop_upto dump (suc version) =
+    option_or (stop_upto dump version) (own_stop unannotated parameters dump.entries (y.Point.commit (committer_of (suc version) dump.entries)) (as_of unannotated (table_spans dump.tables)))
 
 abbrev pub dump_history : Dump → ℕ → Select → Answered
 dump_history dump table select =
@@ -94,7 +95,7 @@ dump_history dump table select =
 -- some version up to this one passes
 abbrev pub any_upto : (ℕ → Bool) → ℕ → Bool
 any_upto test zero = test zero
-any_upto test (suc u) = any_upto test u || test (suc u)
+any_upto test (suc version) = any_upto test version || test (suc version)
 
 -- the row of some version with the identity
 abbrev pub history_asked : State Monomial → ℕ → Select → Identity → Bool

@@ -15,6 +15,7 @@ use Rattle.gp_machine.specs.RowChanges.{RowChange, tables_changes}
 use Rattle.gp_serial.specs.Serializing.{InCycle, InOrder, Serial, Step, Undecided, runs_refusal, serial_of}
 use Rattle.gp_ask.specs.declared.answered.Answered.{Answered}
 use Rattle.gp_ask.specs.declared.answered.Answered.TheVariants as answered
+use Rattle.gp_ask.specs.declared.answered.Heading.TheVariants as heading
 use Rattle.gp_ask.specs.Asking.{table_spans}
 use Rattle.gp_ask.specs.Values.{unless_refused}
 
@@ -46,9 +47,9 @@ module _ (tables : List Table) where
         concat (decimal step.first ∷ codes " before " ∷ decimal step.next ∷ codes " : " ∷ option_map_or (reason_text step.first step.next) step.reason [] ∷ [])
 
     abbrev pub answered_serial : Serial → Answered
-    answered_serial (InOrder order) = answered.Serial (map decimal order)
-    answered_serial (InCycle steps) = answered.Cycle (map step_text steps)
-    answered_serial Undecided = answered.Undecided
+    answered_serial (InOrder order) = answered.Lines heading.Serial (map decimal order)
+    answered_serial (InCycle steps) = answered.Lines heading.Cycle (map step_text steps)
+    answered_serial Undecided = answered.Lines heading.Undecided []
 
 -- ---- the answer
 

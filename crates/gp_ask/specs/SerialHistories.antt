@@ -44,21 +44,21 @@ module _ (state : State (Unit {0})) where
   LooksAt t k change = list_any (meets change) (option_map_or (looks state.catalogue) (statement_at t k state.entries) []) ≡ true
 
   abbrev pub IsReason : ℕ → ℕ → Reason → Type 0
-  IsReason a b (ReadBefore k change) = IsChangeBy b change × (LooksAt a k change × (statement_version a k state.entries < change.version))
-  IsReason a b (ReadAfter k change) = IsChangeBy a change × (LooksAt b k change × (change.version ≤ statement_version b k state.entries))
-  IsReason a b (Wrote change other) = IsChangeBy a change × (IsChangeBy b other × ((change.row ≡ other.row) × (change.version < other.version)))
+  IsReason earlier later (ReadBefore k change) = IsChangeBy later change × (LooksAt earlier k change × (statement_version earlier k state.entries < change.version))
+  IsReason earlier later (ReadAfter k change) = IsChangeBy earlier change × (LooksAt later k change × (change.version ≤ statement_version later k state.entries))
+  IsReason earlier later (Wrote change other) = IsChangeBy earlier change × (IsChangeBy later other × ((change.row ≡ other.row) × (change.version < other.version)))
 
   -- a line that says why a transaction comes before another one
-  pub record IsStep (a b : ℕ) (line : List ℕ) : Type 0 where
-    pub two : a ≢ b
+  pub record IsStep (earlier later : ℕ) (line : List ℕ) : Type 0 where
+    pub two : earlier ≢ later
     pub reason : Reason
-    pub is : IsReason a b reason
-    pub text : line ≡ step_text state.catalogue state.entries (record { first = a; next = b; reason = Some reason })
+    pub is : IsReason earlier later reason
+    pub text : line ≡ step_text state.catalogue state.entries (record { first = earlier; next = later; reason = Some reason })
 
   -- a line from each to the next one, and from the last to this one
   abbrev pub AreSteps : ℕ → List ℕ → List (List ℕ) → Type 0
-  AreSteps first (a ∷ []) (line ∷ []) = IsStep a first line
-  AreSteps first (a ∷ b ∷ others) (line ∷ lines) = IsStep a b line × AreSteps first (b ∷ others) lines
+  AreSteps first (t ∷ []) (line ∷ []) = IsStep t first line
+  AreSteps first (t ∷ next ∷ others) (line ∷ lines) = IsStep t next line × AreSteps first (next ∷ others) lines
   AreSteps first _ _ = ⊥
 
   -- the lines of an answer are those of a cycle

@@ -12,7 +12,9 @@ use Rattle.gp_base.specs.Writing.{joined_texts}
 use Rattle.gp_semiring.specs.declared.listed.Listed as l
 use Rattle.gp_ask.specs.declared.answered.Answered.{Answered}
 use Rattle.gp_ask.specs.declared.answered.Valued.{Valued}
-use Rattle.gp_ask.specs.declared.answered.Answered.TheVariants.{Rows, Listed, Values, Log, Versions, Program, Transactions, Changes, Conflicts, History, When, Diff, Causes, Cycle, Refused, Checked, Serial, Sheet, Undecided}
+use Rattle.gp_ask.specs.declared.answered.Answered.TheVariants.{Rows, Listed, Values, Program, Lines, Diff, Refused, Checked, Sheet}
+use Rattle.gp_ask.specs.declared.answered.Heading.{Heading}
+use Rattle.gp_ask.specs.declared.answered.Heading.TheVariants.{Log, Versions, Transactions, Changes, Conflicts, History, When, Causes, Serial, Cycle, Undecided}
 
 -- a line of an answer
 abbrev pub listed_line : List ℕ → List ℕ
@@ -20,8 +22,20 @@ listed_line text = concat (codes "  " ∷ text ∷ newline ∷ [])
 
 -- an answer of lines, after a word and their number
 unfoldable pub listed_text : ℕ → List ℕ → List (List ℕ) → List ℕ
-listed_text number word texts =
-    concat (decimal number ∷ codes " " ∷ word ∷ codes " " ∷ decimal (length texts) ∷ newline ∷ flat_map listed_line texts ∷ [])
+listed_text number word texts = concat (decimal number ∷ codes " " ∷ word ∷ codes " " ∷ decimal (length texts) ∷ newline ∷ flat_map listed_line texts ∷ [])
+
+abbrev pub heading_word : Heading → List ℕ
+heading_word Log = codes "log"
+heading_word Versions = codes "versions"
+heading_word Transactions = codes "transactions"
+heading_word Changes = codes "changes"
+heading_word Conflicts = codes "conflicts"
+heading_word History = codes "history"
+heading_word When = codes "when"
+heading_word Causes = codes "causes"
+heading_word Serial = codes "serial"
+heading_word Cycle = codes "cycle"
+heading_word Undecided = codes "undecided"
 
 -- a row with its provenance polynomial: its monomials in order, with plus signs between them
 abbrev pub provenance_text : l.Listed → List ℕ
@@ -38,7 +52,7 @@ signed_text row = row_text row
 
 -- whether the dump is that of a history, or its first line that differs
 abbrev pub checked_text : Option ℕ → List ℕ
-checked_text line = option_map_or (λ (own : ℕ). concat (codes "differs at line " ∷ decimal own ∷ newline ∷ [])) line (codes "history" ++ newline)
+checked_text line = option_map_or (λ (number : ℕ). concat (codes "differs at line " ∷ decimal number ∷ newline ∷ [])) line (codes "history" ++ newline)
 
 -- rows and refusals are written as those of a script are: rows in row order, each as often as it occurs
 abbrev pub answer_text : ℕ → Answered → List ℕ
@@ -46,18 +60,8 @@ answer_text number (Rows rows) = numbered number (rows_text rows)
 answer_text number (Sheet sheet) = numbered number (rows_text sheet.rows)
 answer_text number (Listed rows) = listed_text number (codes "rows") (map provenance_text rows)
 answer_text number (Values rows) = listed_text number (codes "rows") (map value_text rows)
-answer_text number (Log texts) = listed_text number (codes "log") texts
-answer_text number (Versions texts) = listed_text number (codes "versions") texts
+answer_text number (Lines heading texts) = listed_text number (heading_word heading) texts
 answer_text number (Program texts) = listed_text number (codes "program") texts
-answer_text number (Transactions texts) = listed_text number (codes "transactions") texts
-answer_text number (Changes texts) = listed_text number (codes "changes") texts
-answer_text number (Conflicts texts) = listed_text number (codes "conflicts") texts
-answer_text number (History texts) = listed_text number (codes "history") texts
-answer_text number (When texts) = listed_text number (codes "when") texts
 answer_text number (Diff rows) = listed_text number (codes "diff") (map signed_text rows)
-answer_text number (Causes texts) = listed_text number (codes "causes") texts
-answer_text number (Serial texts) = listed_text number (codes "serial") texts
-answer_text number (Cycle texts) = listed_text number (codes "cycle") texts
-answer_text number Undecided = listed_text number (codes "undecided") []
 answer_text number (Checked line) = numbered number (checked_text line)
 answer_text number (Refused refusal) = numbered number (refused_text refusal)

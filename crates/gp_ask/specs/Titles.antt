@@ -33,17 +33,14 @@ query_names tables (block ∷ blocks) = item_names tables block.from block.items
 
 -- ---- their titles
 
-abbrev pub place_title : ℕ → Bytes
-place_title place = codes "c" ++ decimal place
-
 abbrev pub is_title : List Bytes → Bytes → Bool
 is_title titles name = list_any (λ (title : Bytes). bytes_eq title name) titles
 
 -- the title of the next column behind these titles, of which so many are of no column of the query
 abbrev pub title : ℕ → List Bytes → Option Bytes → Bytes
 title others before name =
-    let placed = place_title (suc (length before) - others) in
-    option_map_or (λ (own : Bytes). if is_title before own then placed else own) name placed
+    let placed = codes "c" ++ decimal (suc (length before) - others) in
+    option_map_or (λ (known : Bytes). if is_title before known then placed else known) name placed
 
 -- these titles, and those of the columns
 abbrev pub with_titles : ℕ → List Bytes → List (Option Bytes) → List Bytes

@@ -75,7 +75,7 @@ or_refused answer (Err refusal) = Refused refusal
 
 -- the distinct rows with the texts of their values
 abbrev pub with_values : {K : Type 0} → (K → List ℕ) → Result (List (List Cell × K)) Refusal → Answered
-with_values text_of rows = or_refused (λ own. Values (map (valued text_of) own)) rows
+with_values text_of found = or_refused (λ rows. Values (map (valued text_of) rows)) found
 
 -- an answer, unless something refuses it
 abbrev pub unless_refused : Option Refusal → Answered → Answered
@@ -86,4 +86,4 @@ abbrev pub outside_in : Semiring → List Rule → Option ℕ → Option ℕ
 outside_in (semiring_with zero one plus times number itself text) rules other = first_outside number rules other
 
 abbrev pub outside_refusal : SemiringName → List Rule → Option ℕ → Option Refusal
-outside_refusal name rules other = option_map (λ n. E28 n (name_text name)) (outside_in (semiring_of name) rules other)
+outside_refusal name rules other = option_map (λ number. E28 number (name_text name)) (outside_in (semiring_of name) rules other)

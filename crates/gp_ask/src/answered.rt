@@ -23,6 +23,56 @@ pub struct Sheet {
     pub rows: Sequence<Row>,
 }
 
+/// What the lines of an answer are.
+#[derive(Clone, Copy)]
+pub enum Heading {
+    /// The lines of a log, in order.
+    Log,
+    /// The lines of a table's row versions, in the order of the dump.
+    Versions,
+    /// The transactions, in the order of their numbers.
+    Transactions,
+    /// The rows that were changed, by table and then by identity.
+    Changes,
+    /// The rows on which a transaction met another one, by table and then by identity.
+    Conflicts,
+    /// What became of rows, by identity, and of one identity in the order in which it was changed.
+    History,
+    /// The intervals in which rows were in an answer, in row order.
+    When,
+    /// The statements that an answer depends on, in the order of their lines.
+    Causes,
+    /// The transactions that committed, in an order in which they run one after another and do what they did.
+    Serial,
+    /// A cycle of transactions each of which comes before the next one.
+    Cycle,
+    /// There are no lines: the transactions have no such cycle, and do something else one after another in the order that was found.
+    Undecided,
+}
+
+impl Heading {
+    ghost use Rattle.gp_ask.specs.Texts.{heading_word};
+
+    /// The word in front of the number of lines.
+    pub(crate) fn word(self) -> &'static [u8]
+        ensures { result.now ≡ heading_word self }
+    {
+        match self {
+            Heading::Log => b"log",
+            Heading::Versions => b"versions",
+            Heading::Transactions => b"transactions",
+            Heading::Changes => b"changes",
+            Heading::Conflicts => b"conflicts",
+            Heading::History => b"history",
+            Heading::When => b"when",
+            Heading::Causes => b"causes",
+            Heading::Serial => b"serial",
+            Heading::Cycle => b"cycle",
+            Heading::Undecided => b"undecided",
+        }
+    }
+}
+
 /// The answer to a question.
 #[derive(Drop)]
 pub enum Answered {
@@ -34,32 +84,12 @@ pub enum Answered {
     Listed(Sequence<Listed>),
     /// The distinct rows of a query, in row order, each with its value in a semiring.
     Values(Sequence<Valued>),
-    /// The lines of a log, in order.
-    Log(Sequence<Text>),
-    /// The lines of a table's row versions, in the order of the dump.
-    Versions(Sequence<Text>),
     /// The lines of the program that a query over a past state is.
     Program(Sequence<Text>),
-    /// The lines of the transactions, in the order of their numbers.
-    Transactions(Sequence<Text>),
-    /// The lines of the rows that were changed, by table and then by identity.
-    Changes(Sequence<Text>),
-    /// The lines of the rows on which a transaction met another one, by table and then by identity.
-    Conflicts(Sequence<Text>),
-    /// The lines of what became of rows, by identity, and of one identity in the order in which it was changed.
-    History(Sequence<Text>),
-    /// The lines of the intervals in which rows were in an answer, in row order.
-    When(Sequence<Text>),
+    /// Lines of any other kind.
+    Lines(Heading, Sequence<Text>),
     /// The rows that are more often in one of two answers, in row order, each behind its sign, a text.
     Diff(Sequence<Row>),
-    /// The lines of the statements that an answer depends on, in the order of their lines.
-    Causes(Sequence<Text>),
-    /// The transactions that committed, in an order in which they run one after another and do what they did.
-    Serial(Sequence<Text>),
-    /// The lines of a cycle of transactions each of which comes before the next one.
-    Cycle(Sequence<Text>),
-    /// The transactions have no such cycle, and do something else one after another in the order that was found.
-    Undecided,
     /// The number of the first line of the dump that differs, or None if it is the dump of a history.
     Checked(Option<u64>),
     /// The question was refused.

@@ -3,11 +3,8 @@
 ghost use Rattle.std.specs.Prelude.{◌≡◌, true, IfOk};
 ghost use Rattle.gp_grammar.specs.Syntax as y;
 ghost use Rattle.gp_syntax.specs.Views.{query_view, question_view, subject_view};
-ghost use Rattle.gp_check.specs.Valid.{query_is_valid, tables_are_valid};
-ghost use Rattle.gp_log.specs.LogFacts.{tables_in};
 ghost use Rattle.gp_dump.specs.WholeDumps.{IsDump};
 ghost use Rattle.gp_dump.specs.Views.{dump_view};
-ghost use Rattle.gp_ask.specs.Answerable.{IsAnswerable, has_few_items, question_is_valid};
 ghost use Rattle.gp_ask.specs.Computed.{computed_answer};
 ghost use Rattle.gp_ask.specs.Backends.{AnswersBy};
 ghost use Rattle.gp_ask.specs.ExplainedTexts.{ExplainsQuestion};
@@ -20,25 +17,25 @@ use crate::changes::{changes_answer, commit_changes_answer};
 use crate::checked::check_answer;
 use crate::conflicts::conflicts_answer;
 use crate::differences::diff_answer;
-use crate::hypothetical::what_if_answer;
 use crate::intervals::when_answer;
 use crate::keeping::KeptAnnotations;
 use crate::logs::log_answer;
 use crate::programs::saw_program_answer;
 use crate::queries::query_answer_by;
+use crate::remembering::what_if_kept;
 use crate::row_histories::history_answer;
 use crate::row_versions::versions_answer;
 use crate::serial::serial_answer;
 use crate::states::ask_answer;
 use crate::transactions::transactions_answer;
+use crate::valid::{ValidQuery, ValidQuestion};
 use gp_base::NoMemory;
 use gp_dump::Dump;
 use gp_exec::Backend;
-use gp_syntax::{How, Query, Question, Subject};
+use gp_syntax::{How, Question, Subject};
 use std::alloc::Global;
 
-/// Answers a question that was read ([`read_questions_are_valid`](crate::read_questions_are_valid)) from a dump that was read: it
-/// keeps the rules of dumps, and its tables have columns.
+/// Answers a question that was read from a dump that was read: it keeps the rules of dumps.
 ///
 /// LOG is refused if no transaction has the number (E20), VERSIONS if no table has the name (E04). TRANSACTIONS and CHECK are never
 /// refused. AS OF is refused if there is no such version (E23), REENACT if there is no such transaction (E20), it did not commit (E21) or
@@ -71,14 +68,12 @@ use std::alloc::Global;
 /// second, they are refused by the first commit that cannot be made again, and then by the least version in which a table has other
 /// rows (E24). SERIAL is refused for the transactions that committed, in the order of their versions (E25, E26). Running out of memory is
 /// the only error.
-pub fn answer(alloc: Global, dump: &Dump, question: &Question) -> Result<Answered, NoMemory>
+pub fn answer(alloc: Global, dump: &Dump, question: &ValidQuestion) -> Result<Answered, NoMemory>
     requires rules { IsDump (dump_view dump.now) }
-    requires valid { tables_are_valid (tables_in (dump_view dump.now).entries) ≡ true }
-    requires question { question_is_valid (question_view question.now) ≡ true }
     ensures answered { IfOk result (λ answered. answered
-        ≡ computed_answer (dump_view dump.now) (question_view question.now)) }
+        ≡ computed_answer (dump_view dump.now) (question_view question.now.read)) }
     ensures explained { IfOk result (λ answered.
-        ExplainsQuestion (dump_view dump.now).entries (question_view question.now)) }
+        ExplainsQuestion (dump_view dump.now).entries (question_view question.now.read)) }
 {
     let mut kept = KeptAnnotations::new();
     answer_from(alloc, dump, question, &mut kept)
@@ -88,20 +83,18 @@ pub fn answer(alloc: Global, dump: &Dump, question: &Question) -> Result<Answere
 pub fn answer_from(
     alloc: Global,
     dump: &Dump,
-    question: &Question,
+    question: &ValidQuestion,
     kept: &mut KeptAnnotations,
 ) -> Result<Answered, NoMemory>
     requires rules { IsDump (dump_view dump.now) }
-    requires valid { tables_are_valid (tables_in (dump_view dump.now).entries) ≡ true }
-    requires question { question_is_valid (question_view question.now) ≡ true }
     requires kept { AreKept dump.now kept.old }
     ensures kept { AreKept dump.now kept.new }
     ensures answered { IfOk result (λ answered. answered
-        ≡ computed_answer (dump_view dump.now) (question_view question.now)) }
+        ≡ computed_answer (dump_view dump.now) (question_view question.now.read)) }
     ensures explained { IfOk result (λ answered.
-        ExplainsQuestion (dump_view dump.now).entries (question_view question.now)) }
+        ExplainsQuestion (dump_view dump.now).entries (question_view question.now.read)) }
 {
-    match question {
+    match &question.read {
         Question::Log { t } => log_answer(alloc, &dump.log, *t),
         Question::Versions { table } => versions_answer(alloc, dump, table),
         Question::Transactions => transactions_answer(alloc, dump),
@@ -109,22 +102,47 @@ pub fn answer_from(
         Question::CommitChanges { t } => commit_changes_answer(alloc, dump, *t),
         Question::Conflicts { t } => conflicts_answer(alloc, dump, *t),
         Question::History { table, cond } => history_answer(alloc, dump, table, cond),
-        Question::When { query } => when_answer(alloc, dump, query),
+        Question::When { query } => when_answer(alloc, dump, ValidQuery { read: query }),
         Question::Serial => serial_answer(alloc, dump),
         Question::Check => check_answer(alloc, dump),
         Question::Diff {
             first,
             second,
             query,
-        } => diff_answer(alloc, dump, first, second, query, kept),
-        Question::Causes { subject, query } => causes_answer(alloc, dump, subject, query, kept),
-        Question::Ask { subject, query } => ask_answer(alloc, dump, subject, query, kept),
+        } => diff_answer(alloc, dump, first, second, ValidQuery { read: query }, kept),
+        Question::Causes { subject, query } => causes_answer(
+            alloc,
+            dump,
+            subject,
+            ValidQuery { read: query },
+            kept,
+        ),
+        Question::Ask { subject, query } => ask_answer(
+            alloc,
+            dump,
+            subject,
+            ValidQuery { read: query },
+            &mut kept.own,
+        ),
         Question::WhatIf {
             changes,
             subject,
             query,
-        } => what_if_answer(alloc, dump, changes.as_slice(), subject, query),
-        Question::ExplainSaw { t, k, query } => saw_program_answer(alloc, dump, *t, *k, query),
+        } => what_if_kept(
+            alloc,
+            dump,
+            changes.as_slice(),
+            subject,
+            ValidQuery { read: query },
+            &mut kept.changed,
+        ),
+        Question::ExplainSaw { t, k, query } => saw_program_answer(
+            alloc,
+            dump,
+            *t,
+            *k,
+            ValidQuery { read: query },
+        ),
     }
 }
 
@@ -133,15 +151,13 @@ fn ask_answer_by<B: Backend>(
     alloc: Global,
     dump: &Dump,
     subject: &Subject,
-    query: &Query,
+    query: ValidQuery<'_>,
     backend: &B,
 ) -> Result<Answered, NoMemory>
-    requires rules { IsAnswerable (dump_view dump.now) }
-    requires valid { tables_are_valid (tables_in (dump_view dump.now).entries) ≡ true }
-    requires query { query_is_valid (query_view query.now) ≡ true }
-    requires rows { asks_rows (y.ask (subject_view subject.now) (query_view query.now)) ≡ true }
+    requires rows { asks_rows (y.ask (subject_view subject.now)
+        (query_view query.read.now)) ≡ true }
     ensures { IfOk result (λ answered. AnswersBy (B.gives backend.now) (dump_view dump.now)
-        (y.ask (subject_view subject.now) (query_view query.now)) answered) }
+        (y.ask (subject_view subject.now) (query_view query.entry.read.now)) answered) }
 {
     match subject {
         Subject::State { how, state } => match how {
@@ -159,18 +175,22 @@ fn ask_answer_by<B: Backend>(
 pub fn answer_by<B: Backend>(
     alloc: Global,
     dump: &Dump,
-    question: &Question,
+    question: &ValidQuestion,
     backend: &B,
 ) -> Result<Answered, NoMemory>
     requires rules { IsDump (dump_view dump.now) }
-    requires valid { tables_are_valid (tables_in (dump_view dump.now).entries) ≡ true }
-    requires question { question_is_valid (question_view question.now) ≡ true }
-    requires rows { asks_rows (question_view question.now) ≡ true }
+    requires rows { asks_rows (question_view question.now.read) ≡ true }
     ensures { IfOk result (λ answered. AnswersBy (B.gives backend.now) (dump_view dump.now)
-        (question_view question.now) answered) }
+        (question_view question.now.read) answered) }
 {
-    match question {
-        Question::Ask { subject, query } => ask_answer_by(alloc, dump, subject, query, backend),
+    match &question.read {
+        Question::Ask { subject, query } => ask_answer_by(
+            alloc,
+            dump,
+            subject,
+            ValidQuery { read: query },
+            backend,
+        ),
         _ => unreachable!(),
     }
 }

@@ -1,20 +1,17 @@
 //! The statements that an answer depends on: without each of them, the commits of the log are made again, from the version that its
 //! transaction made. Versions before it are made once for all.
 
-ghost use Rattle.std.specs.Prelude.{◌≡◌, ◌<◌, ◌+◌, ◌^◌, ◌++◌, ℕ, None, Some, replicate, suc, true, map, IfOk, OnOk};
+ghost use Rattle.std.specs.Prelude.{◌≡◌, ◌<◌, ◌+◌, ◌^◌, ◌++◌, ℕ, None, Some, replicate, suc, map, IfOk, OnOk};
 ghost use Rattle.std.specs.List.{flat_map};
 ghost use Rattle.std.specs.Option.{option_or, option_to_list};
 ghost use Rattle.gp_algebra.specs.Views.{statement_view};
-ghost use Rattle.gp_check.specs.Valid.{query_is_valid, tables_are_valid};
 ghost use Rattle.gp_dump.specs.WholeDumps.{IsDump};
 ghost use Rattle.gp_dump.specs.Views.{dump_view};
 ghost use Rattle.gp_grammar.specs.Syntax as y;
 ghost use Rattle.gp_log.specs.Contents.{entries};
-ghost use Rattle.gp_log.specs.LogFacts.{tables_in};
 ghost use Rattle.gp_machine.specs.Entries.{version_of, versions_in};
 ghost use Rattle.gp_syntax.specs.Views.{change_view, query_view, subject_view};
 ghost use Rattle.gp_whatif.specs.Replays.{IsMade};
-ghost use Rattle.gp_ask.specs.Answerable.{has_few_items};
 ghost use Rattle.gp_ask.specs.Hypothetical.{asking_refusal, replayed_dump};
 ghost use Rattle.gp_ask.specs.Keeping.{AreKept, IsFound};
 ghost use Rattle.gp_ask.specs.Made.{unmade_refusal};
@@ -22,14 +19,15 @@ ghost use Rattle.gp_ask.specs.Printed.{query_to};
 ghost use Rattle.gp_ask.specs.DifferenceForms as f;
 ghost use Rattle.gp_ask.specs.Differences as d;
 ghost use Rattle.gp_ask.specs.Computed.{what_if_answer};
-ghost use Rattle.gp_ask.specs.Writes.{ArePut, AreWrites, IsAsked, IsLine, committed_write, listed_line, write_of, write_view};
+ghost use Rattle.gp_ask.specs.Writes.{ArePut, AreWrites, IsLine, committed_write, listed_line, write_of, write_view};
 
-use crate::answered::Answered;
+use crate::answered::{Answered, Heading};
 use crate::deltas::{Sizes, delta_sizes};
 use crate::differences::rows_in;
 use crate::hypothetical::{asking_refusal, what_if_answer, what_if_from};
 use crate::keeping::KeptAnnotations;
 use crate::made::{made_answer, unmade_refusal};
+use crate::valid::ValidQuery;
 use gp_algebra::Stmt;
 use gp_base::{NoMemory, Refusal, Row, Sequence, Text, append_all, text_of_pieces, write_refusal};
 use gp_dump::Dump;
@@ -60,7 +58,7 @@ pub(crate) struct Asked<'a> {
     /// What it is asked of.
     pub subject: &'a Subject,
     /// The query.
-    pub query: &'a Query,
+    pub query: ValidQuery<'a>,
     /// The rows of the answer, in row order.
     pub rows: &'a [Row],
 }
@@ -91,18 +89,18 @@ fn committed_write(log: &Log, entry: &Entry) -> Option<Write>
 }
 
 /// Adds a statement, if there is one.
-fn push_write(writes: &mut Vec<Write>, own: Option<Write>) -> Result<(), NoMemory>
-    ensures { OnOk result (writes.new.items ≡ writes.old.items ++ option_to_list own) }
+fn push_write(writes: &mut Vec<Write>, write: Option<Write>) -> Result<(), NoMemory>
+    ensures { OnOk result (writes.new.items ≡ writes.old.items ++ option_to_list write) }
 {
-    if let Some(own) = own {
-        writes.push(own)?;
+    if let Some(write) = write {
+        writes.push(write)?;
     }
     Ok(())
 }
 
 /// The statements that write, of transactions that committed, in the order of their lines.
 fn committed_writes(alloc: Global, log: &Log) -> Result<Vec<Write>, NoMemory>
-    ensures own { IfOk result (λ writes. map write_view writes.items
+    ensures statements { IfOk result (λ writes. map write_view writes.items
         ≡ f.committed_writes (entries log.now)) }
     ensures versions { IfOk result (λ writes. AreWrites (entries log.now) writes.items) }
 {
@@ -116,20 +114,20 @@ fn committed_writes(alloc: Global, log: &Log) -> Result<Vec<Write>, NoMemory>
 // ---- texts
 
 /// A statement by its transaction and its number.
-fn statement_text(alloc: Global, own: Write) -> Result<Vec<u8>, NoMemory>
-    ensures { IfOk result (λ text. text.items ≡ d.statement_text (write_view own)) }
+fn statement_text(alloc: Global, write: Write) -> Result<Vec<u8>, NoMemory>
+    ensures { IfOk result (λ text. text.items ≡ d.statement_text (write_view write)) }
 {
-    let t = own.t.to_string(alloc)?;
-    let k = own.k.to_string(alloc)?;
+    let t = write.t.to_string(alloc)?;
+    let k = write.k.to_string(alloc)?;
     text_of_pieces(alloc, &[t.as_bytes(), b".", k.as_bytes()])
 }
 
 /// The line of a statement without which the answer would lose and gain so many rows.
-fn cause_text(alloc: Global, own: Write, found: Sizes) -> Result<Text, NoMemory>
+fn cause_text(alloc: Global, write: Write, found: Sizes) -> Result<Text, NoMemory>
     ensures { IfOk result (λ text. text
-        ≡ f.sizes_text (write_view own) found.removed found.added) }
+        ≡ f.sizes_text (write_view write) found.removed found.added) }
 {
-    let statement = statement_text(alloc, own)?;
+    let statement = statement_text(alloc, write)?;
     let removed = found.removed.to_string(alloc)?;
     let added = found.added.to_string(alloc)?;
     let text = text_of_pieces(
@@ -146,10 +144,10 @@ fn cause_text(alloc: Global, own: Write, found: Sizes) -> Result<Text, NoMemory>
 }
 
 /// The line of a statement without which the question would be refused.
-fn refused_text(alloc: Global, own: Write, refusal: &Refusal) -> Result<Text, NoMemory>
-    ensures { IfOk result (λ text. text ≡ f.refused_text (write_view own) refusal.now) }
+fn refused_text(alloc: Global, write: Write, refusal: &Refusal) -> Result<Text, NoMemory>
+    ensures { IfOk result (λ text. text ≡ f.refused_text (write_view write) refusal.now) }
 {
-    let mut text = statement_text(alloc, own)?;
+    let mut text = statement_text(alloc, write)?;
     append_all(&mut text, &[b" : "])?;
     write_refusal(alloc, refusal, &mut text)?;
     Text::from_bytes(alloc, &text)
@@ -161,18 +159,18 @@ fn refused_text(alloc: Global, own: Write, refusal: &Refusal) -> Result<Text, No
 fn cause_line(
     alloc: Global,
     rows: &[Row],
-    own: Write,
+    write: Write,
     without: Result<Sequence<Row>, Refusal>,
 ) -> Result<Option<Text>, NoMemory>
     ensures { IfOk result (λ line. listed_line line
-        ≡ d.cause_of rows.now (write_view own) without) }
+        ≡ d.cause_of rows.now (write_view write) without) }
 {
     match without {
-        Err(refusal) => Ok(Some(refused_text(alloc, own, &refusal)?)),
+        Err(refusal) => Ok(Some(refused_text(alloc, write, &refusal)?)),
         Ok(others) => {
             let found = delta_sizes(rows, others.as_slice());
             if found.removed > 0 || found.added > 0 {
-                Ok(Some(cause_text(alloc, own, found)?))
+                Ok(Some(cause_text(alloc, write, found)?))
             } else {
                 Ok(None)
             }
@@ -181,12 +179,12 @@ fn cause_line(
 }
 
 /// The change that drops a statement.
-fn dropping(own: Write) -> LogChange
-    ensures { change_view result ≡ y.drop own.t own.k }
+fn dropping(write: Write) -> LogChange
+    ensures { change_view result ≡ y.drop write.t write.k }
 {
     LogChange::Drop {
-        t: u64::from(own.t),
-        k: u64::from(own.k),
+        t: u64::from(write.t),
+        k: u64::from(write.k),
     }
 }
 
@@ -195,16 +193,16 @@ fn dropping(own: Write) -> LogChange
 fn answer_without(
     alloc: Global,
     asked: &Asked<'_>,
-    own: Write,
+    write: Write,
     before: u32,
     versions: &[VersionTable],
 ) -> Result<Answered, NoMemory>
-    requires asked { IsAsked asked.now }
-    requires version { version_of own.t (dump_view asked.now.dump.now).entries ≡ Some (suc before) }
+    requires rules { IsDump (dump_view asked.now.dump.now) }
+    requires version { version_of write.t (dump_view asked.now.dump.now).entries ≡ Some (suc before) }
     requires made { IsMade (dump_view asked.now.dump.now).entries before versions.now }
     ensures { IfOk result (λ answered. answered ≡ f.without_in
         (what_if_answer (dump_view asked.now.dump.now).entries) (subject_view asked.now.subject.now)
-        (query_view asked.now.query.now) (write_view own)) }
+        (query_view asked.now.query.read.now) (write_view write)) }
 {
     // Earlier versions are kept. The call does nothing.
     changes_keep_earlier_versions();
@@ -213,7 +211,7 @@ fn answer_without(
         count: before,
         versions: copies,
     };
-    let changes = [dropping(own)];
+    let changes = [dropping(write)];
     what_if_from(
         alloc,
         asked.dump,
@@ -228,27 +226,27 @@ fn answer_without(
 fn line_without(
     alloc: Global,
     asked: &Asked<'_>,
-    own: Write,
+    write: Write,
     before: u32,
     versions: &[VersionTable],
 ) -> Result<Option<Text>, NoMemory>
-    requires asked { IsAsked asked.now }
-    requires version { version_of own.t (dump_view asked.now.dump.now).entries ≡ Some (suc before) }
+    requires rules { IsDump (dump_view asked.now.dump.now) }
+    requires version { version_of write.t (dump_view asked.now.dump.now).entries ≡ Some (suc before) }
     requires made { IsMade (dump_view asked.now.dump.now).entries before versions.now }
-    ensures { IfOk result (IsLine asked.now own) }
+    ensures { IfOk result (IsLine asked.now write) }
 {
-    let without = answer_without(alloc, asked, own, before, versions)?;
-    cause_line(alloc, asked.rows, own, rows_in(alloc, without))
+    let without = answer_without(alloc, asked, write, before, versions)?;
+    cause_line(alloc, asked.rows, write, rows_in(alloc, without))
 }
 
 /// The line of a statement, with all versions made again from nothing.
-fn line_alone(alloc: Global, asked: &Asked<'_>, own: Write) -> Result<Option<Text>, NoMemory>
-    requires { IsAsked asked.now }
-    ensures { IfOk result (IsLine asked.now own) }
+fn line_alone(alloc: Global, asked: &Asked<'_>, write: Write) -> Result<Option<Text>, NoMemory>
+    requires rules { IsDump (dump_view asked.now.dump.now) }
+    ensures { IfOk result (IsLine asked.now write) }
 {
-    let changes = [dropping(own)];
+    let changes = [dropping(write)];
     let without = what_if_answer(alloc, asked.dump, &changes, asked.subject, asked.query)?;
-    cause_line(alloc, asked.rows, own, rows_in(alloc, without))
+    cause_line(alloc, asked.rows, write, rows_in(alloc, without))
 }
 
 /// Puts the lines of the statements of the transaction that made the version after these, in their places.
@@ -260,18 +258,18 @@ fn put_version(
     versions: &[VersionTable],
     lines: &mut [Option<Text>],
 ) -> Result<(), NoMemory>
-    requires asked { IsAsked asked.now }
+    requires rules { IsDump (dump_view asked.now.dump.now) }
     requires writes { AreWrites (dump_view asked.now.dump.now).entries writes.now }
     requires few { before + 1 < 2 ^ 32 }
     requires made { IsMade (dump_view asked.now.dump.now).entries before versions.now }
     requires lines { ArePut asked.now writes.now before lines.old }
     ensures { OnOk result (ArePut asked.now writes.now (suc before) lines.new) }
 {
-    for (place, own) in writes.iter().enumerate() {
-        if own.version != before + 1 {
+    for (place, write) in writes.iter().enumerate() {
+        if write.version != before + 1 {
             continue;
         }
-        let line = line_without(alloc, asked, *own, before, versions)?;
+        let line = line_without(alloc, asked, *write, before, versions)?;
         lines[place] = line;
     }
     Ok(())
@@ -285,15 +283,15 @@ fn put_later(
     before: u32,
     lines: &mut [Option<Text>],
 ) -> Result<(), NoMemory>
-    requires asked { IsAsked asked.now }
+    requires rules { IsDump (dump_view asked.now.dump.now) }
     requires lines { ArePut asked.now writes.now before lines.old }
     ensures { OnOk result ((versions : ℕ) → ArePut asked.now writes.now versions lines.new) }
 {
-    for (place, own) in writes.iter().enumerate() {
-        if own.version <= before {
+    for (place, write) in writes.iter().enumerate() {
+        if write.version <= before {
             continue;
         }
-        let line = line_alone(alloc, asked, *own)?;
+        let line = line_alone(alloc, asked, *write)?;
         lines[place] = line;
     }
     Ok(())
@@ -307,7 +305,7 @@ fn put_all(
     writes: &[Write],
     lines: &mut [Option<Text>],
 ) -> Result<(), NoMemory>
-    requires asked { IsAsked asked.now }
+    requires rules { IsDump (dump_view asked.now.dump.now) }
     requires writes { AreWrites (dump_view asked.now.dump.now).entries writes.now }
     requires lines { ArePut asked.now writes.now 0 lines.old }
     ensures { OnOk result (ArePut asked.now writes.now
@@ -344,7 +342,7 @@ fn lines_in_places(
     asked: &Asked<'_>,
     writes: &[Write],
 ) -> Result<Vec<Option<Text>>, NoMemory>
-    requires asked { IsAsked asked.now }
+    requires rules { IsDump (dump_view asked.now.dump.now) }
     requires writes { AreWrites (dump_view asked.now.dump.now).entries writes.now }
     ensures { IfOk result (λ lines. ArePut asked.now writes.now
         (versions_in (dump_view asked.now.dump.now).entries) lines.items) }
@@ -377,10 +375,10 @@ fn all_lines(alloc: Global, found: Vec<Option<Text>>) -> Result<Sequence<Text>, 
 
 /// The lines of the statements that the rows depend on.
 fn cause_lines(alloc: Global, asked: &Asked<'_>) -> Result<Sequence<Text>, NoMemory>
-    requires asked { IsAsked asked.now }
+    requires rules { IsDump (dump_view asked.now.dump.now) }
     ensures { IfOk result (λ lines. lines ≡ f.all_cause_lines (f.without_in
         (what_if_answer (dump_view asked.now.dump.now).entries) (subject_view asked.now.subject.now)
-        (query_view asked.now.query.now))
+        (query_view asked.now.query.read.now))
         (f.committed_writes (dump_view asked.now.dump.now).entries) asked.now.rows.now) }
 {
     let writes = committed_writes(alloc, &asked.dump.log)?;
@@ -398,7 +396,6 @@ fn causes_refusal(
     is_made: &mut Option<bool>,
 ) -> Result<Option<Refusal>, NoMemory>
     requires rules { IsDump (dump_view dump.now) }
-    requires valid { tables_are_valid (tables_in (dump_view dump.now).entries) ≡ true }
     requires kept { IsFound dump.now is_made.old }
     ensures kept { IsFound dump.now is_made.new }
     ensures refusal { IfOk result (λ refusal. refusal ≡ option_or (asking_refusal
@@ -417,21 +414,18 @@ fn caused_answer(
     alloc: Global,
     dump: &Dump,
     subject: &Subject,
-    query: &Query,
+    query: ValidQuery<'_>,
     kept: &mut KeptAnnotations,
 ) -> Result<Answered, NoMemory>
     requires rules { IsDump (dump_view dump.now) }
-    requires valid { tables_are_valid (tables_in (dump_view dump.now).entries) ≡ true }
-    requires query { query_is_valid (query_view query.now) ≡ true }
-    requires few { has_few_items (query_view query.now) ≡ true }
     requires made { unmade_refusal (dump_view dump.now) ≡ None }
     requires kept { AreKept dump.now kept.old }
     ensures kept { AreKept dump.now kept.new }
     ensures answered { IfOk result (λ answered. answered ≡ f.causes_of
         (f.without_in (what_if_answer (dump_view dump.now).entries) (subject_view subject.now)
-        (query_view query.now)) (f.committed_writes (dump_view dump.now).entries)
+        (query_view query.entry.read.now)) (f.committed_writes (dump_view dump.now).entries)
         (d.rows_in (query_to (replayed_dump (dump_view dump.now).entries)
-        (subject_view subject.now) (query_view query.now)))) }
+        (subject_view subject.now) (query_view query.entry.read.now)))) }
 {
     let answered = made_answer(alloc, dump, subject, query, kept)?;
     match rows_in(alloc, answered) {
@@ -444,7 +438,7 @@ fn caused_answer(
                 rows: rows.as_slice(),
             };
             let lines = cause_lines(alloc, &asked)?;
-            Ok(Answered::Causes(lines))
+            Ok(Answered::Lines(Heading::Causes, lines))
         }
     }
 }
@@ -457,21 +451,18 @@ pub fn causes_answer(
     alloc: Global,
     dump: &Dump,
     subject: &Subject,
-    query: &Query,
+    query: ValidQuery<'_>,
     kept: &mut KeptAnnotations,
 ) -> Result<Answered, NoMemory>
     requires rules { IsDump (dump_view dump.now) }
-    requires valid { tables_are_valid (tables_in (dump_view dump.now).entries) ≡ true }
-    requires query { query_is_valid (query_view query.now) ≡ true }
-    requires few { has_few_items (query_view query.now) ≡ true }
     requires kept { AreKept dump.now kept.old }
     ensures kept { AreKept dump.now kept.new }
     ensures answered { IfOk result (λ answered. answered ≡ d.causes_answer
         (query_to (replayed_dump (dump_view dump.now).entries))
         (what_if_answer (dump_view dump.now).entries) (unmade_refusal (dump_view dump.now)) (dump_view dump.now).entries
-        (subject_view subject.now) (query_view query.now)) }
+        (subject_view subject.now) (query_view query.entry.read.now)) }
 {
-    match causes_refusal(alloc, dump, subject, query, &mut kept.is_made)? {
+    match causes_refusal(alloc, dump, subject, query.read, &mut kept.is_made)? {
         Some(refusal) => Ok(Answered::Refused(refusal)),
         None => caused_answer(alloc, dump, subject, query, kept),
     }

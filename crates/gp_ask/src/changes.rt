@@ -12,13 +12,12 @@ ghost use Rattle.gp_log.specs.Contents.{entries};
 ghost use Rattle.gp_log.specs.LogFacts.{tables_in};
 ghost use Rattle.gp_machine.specs.Entries as m;
 ghost use Rattle.gp_machine.specs.Questions.{is_known};
-ghost use Rattle.gp_ask.specs.Answerable.{IsAnswerable};
 ghost use Rattle.gp_ask.specs.ChangeForms as f;
 ghost use Rattle.gp_ask.specs.Changes as s;
 ghost use Rattle.gp_ask.specs.Computed.{computed_answer};
 ghost use Rattle.gp_ask.specs.Keyed as c;
 
-use crate::answered::Answered;
+use crate::answered::{Answered, Heading};
 use gp_algebra::Stmt;
 use gp_base::{
     Cell, Name, NoMemory, Row, RowId, Sequence, Stop, Text, sort_rows, text_of_pieces, write_id,
@@ -60,13 +59,21 @@ fn change_line(
     ensures { IfOk result (λ text. text ≡ s.change_text name.now id.now
         (option_map (λ row. row.now) before.entry) (option_map (λ row. row.now) after.entry)) }
 {
-    let mut own = Vec::new(alloc);
-    write_id(alloc, id, &mut own)?;
+    let mut identity = Vec::new(alloc);
+    write_id(alloc, id, &mut identity)?;
     let before = side_text(alloc, before)?;
     let after = side_text(alloc, after)?;
     let text = text_of_pieces(
         alloc,
-        &[name.as_bytes(), b" ", &own, b" :", &before, b" ->", &after],
+        &[
+            name.as_bytes(),
+            b" ",
+            &identity,
+            b" :",
+            &before,
+            b" ->",
+            &after,
+        ],
     )?;
     Text::from_bytes(alloc, &text)
 }
@@ -167,14 +174,14 @@ fn key_of(row: &Row) -> Option<&RowId>
 
 /// The cells of a row without its key.
 pub(crate) fn own_cells(alloc: Global, row: &Row) -> Result<Row, NoMemory>
-    ensures { IfOk result (λ own. own ≡ drop 2 row.now) }
+    ensures { IfOk result (λ copy. copy ≡ drop 2 row.now) }
 {
     let cells = row.cells();
-    let mut own = Row::with_capacity(alloc, cells.len())?;
+    let mut copy = Row::with_capacity(alloc, cells.len())?;
     for i in 2..cells.len() {
-        own.push(cells[i].clone()?)?;
+        copy.push(cells[i].clone()?)?;
     }
-    Ok(own)
+    Ok(copy)
 }
 
 /// The line of a row that the statement changed.
@@ -213,8 +220,8 @@ fn push_line(
         ≡ lines.old ++ c.keyed_lines name.now (statement_view stmt.now) row.now) }
 {
     if let Some(id) = key_of(row) {
-        let own = own_cells(alloc, row)?;
-        lines.push(statement_line(alloc, name, stmt, id, &own)?)?;
+        let cells = own_cells(alloc, row)?;
+        lines.push(statement_line(alloc, name, stmt, id, &cells)?)?;
     }
     Ok(())
 }
@@ -250,7 +257,6 @@ fn written_changes(
     stmt: &Stmt,
     table: u32,
 ) -> Result<Answered, NoMemory>
-    requires rules { IsAnswerable (dump_view dump.now) }
     requires known { is_known t (dump_view dump.now).entries ≡ true }
     requires first { 0 < k }
     requires most { k ≤ m.statement_count t (dump_view dump.now).entries }
@@ -263,7 +269,7 @@ fn written_changes(
         Ok(rows) => {
             let name = &dump.log.catalog().table(table).name;
             let lines = shown_lines(alloc, name, t, k, stmt, &rows)?;
-            Ok(Answered::Changes(lines))
+            Ok(Answered::Lines(Heading::Changes, lines))
         }
         Err(Stop::Refused(refusal)) => Ok(Answered::Refused(refusal)),
         Err(Stop::NoMemory) => Err(NoMemory),
@@ -278,7 +284,6 @@ fn known_changes(
     k: u32,
     stmt: &Stmt,
 ) -> Result<Answered, NoMemory>
-    requires rules { IsAnswerable (dump_view dump.now) }
     requires known { is_known t (dump_view dump.now).entries ≡ true }
     requires first { 0 < k }
     requires most { k ≤ m.statement_count t (dump_view dump.now).entries }
@@ -288,13 +293,12 @@ fn known_changes(
 {
     match stmt.target() {
         Some(table) => written_changes(alloc, dump, t, k, stmt, table),
-        None => Ok(Answered::Changes(Sequence::new(alloc))),
+        None => Ok(Answered::Lines(Heading::Changes, Sequence::new(alloc))),
     }
 }
 
 /// What the statement of a number in a transaction changed.
 fn statement_changes(alloc: Global, dump: &Dump, t: u32, k: u32) -> Result<Answered, NoMemory>
-    requires rules { IsAnswerable (dump_view dump.now) }
     requires known { is_known t (dump_view dump.now).entries ≡ true }
     requires first { 0 < k }
     requires most { k ≤ m.statement_count t (dump_view dump.now).entries }
@@ -303,7 +307,7 @@ fn statement_changes(alloc: Global, dump: &Dump, t: u32, k: u32) -> Result<Answe
 {
     match dump.log.statement(t, k) {
         Some(stmt) => known_changes(alloc, dump, t, k, stmt),
-        None => Ok(Answered::Changes(Sequence::new(alloc))),
+        None => Ok(Answered::Lines(Heading::Changes, Sequence::new(alloc))),
     }
 }
 
@@ -329,8 +333,7 @@ fn statement_number(log: &Log, t: u32, k: u64) -> u32
 /// the order of the identities. E20 if no transaction has the number, E22 if it has no such statement; then E25 and E26 of the statements
 /// up to this one. A SELECT changes nothing. The number of rows is not limited.
 pub fn changes_answer(alloc: Global, dump: &Dump, t: u64, k: u64) -> Result<Answered, NoMemory>
-    requires rules { IsAnswerable (dump_view dump.now) }
-    ensures { IfOk result (λ answered. answered ≡ computed_answer (dump_view dump.now) (y.changes t k)) }
+    ensures { IfOk result (λ answered. answered ≡ computed_answer (dump_view dump.now) (y.bare (y.changes t k))) }
 {
     match changes_refusal(&dump.log, t, k) {
         Some(refusal) => Ok(Answered::Refused(refusal)),
@@ -433,7 +436,6 @@ fn push_table(
 
 /// The lines of the rows that a version changed.
 fn commit_lines(alloc: Global, dump: &Dump, version: u32) -> Result<Sequence<Text>, NoMemory>
-    requires rules { IsAnswerable (dump_view dump.now) }
     ensures { IfOk result (λ lines. lines ≡ f.tables_texts version
         (tables_in (dump_view dump.now).entries) (dump_view dump.now).tables) }
 {
@@ -448,20 +450,18 @@ fn commit_lines(alloc: Global, dump: &Dump, version: u32) -> Result<Sequence<Tex
 
 /// What the commit of a transaction changed, if it made a version.
 fn made_changes(alloc: Global, dump: &Dump, t: u32) -> Result<Answered, NoMemory>
-    requires rules { IsAnswerable (dump_view dump.now) }
     ensures { IfOk result (λ answered. answered ≡ f.version_changes (dump_view dump.now)
         (m.version_of t (dump_view dump.now).entries)) }
 {
     match dump.log.version_of(t) {
-        Some(version) => Ok(Answered::Changes(commit_lines(alloc, dump, version)?)),
-        None => Ok(Answered::Changes(Sequence::new(alloc))),
+        Some(version) => Ok(Answered::Lines(Heading::Changes, commit_lines(alloc, dump, version)?)),
+        None => Ok(Answered::Lines(Heading::Changes, Sequence::new(alloc))),
     }
 }
 
 /// What the commit of a transaction changed: each row that it inserted, updated or deleted, in the version before and in the version that it
 /// made, by table and then by identity. E20 if no transaction has the number, E21 if it did not commit.
 pub fn commit_changes_answer(alloc: Global, dump: &Dump, t: u64) -> Result<Answered, NoMemory>
-    requires rules { IsAnswerable (dump_view dump.now) }
     ensures { IfOk result (λ answered. answered ≡ f.commit_changes_to (dump_view dump.now) t) }
 {
     match log_refusal(&dump.log, Point::Commit { t }) {

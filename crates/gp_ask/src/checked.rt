@@ -15,7 +15,7 @@ use std::alloc::Global;
 /// The first line of the dump that is not as the lines of its log make it, or none where the dump is that of a history.
 pub fn check_answer(alloc: Global, dump: &Dump) -> Result<Answered, NoMemory>
     requires rules { IsDump (dump_view dump.now) }
-    ensures { IfOk result (λ answered. answered ≡ computed_answer (dump_view dump.now) y.check) }
+    ensures { IfOk result (λ answered. answered ≡ computed_answer (dump_view dump.now) (y.bare y.check)) }
 {
     Ok(Answered::Checked(check_history(alloc, dump)?))
 }

@@ -11,14 +11,13 @@ ghost use Rattle.gp_log.specs.Logs.{entry_view};
 ghost use Rattle.gp_machine.specs.Entries as m;
 ghost use Rattle.gp_machine.specs.Questions.{is_known};
 ghost use Rattle.gp_versions.specs.TableSpans.{least};
-ghost use Rattle.gp_ask.specs.Answerable.{IsAnswerable};
 ghost use Rattle.gp_ask.specs.ConflictForms as f;
 ghost use Rattle.gp_ask.specs.Keyed.{identity_of};
 ghost use Rattle.gp_ask.specs.Looked as l;
 ghost use Rattle.gp_ask.specs.RowConflicts as s;
 ghost use Rattle.gp_ask.specs.RowLines.{keyed_from};
 
-use crate::answered::Answered;
+use crate::answered::{Answered, Heading};
 use crate::changes::{identity_of, transaction_number};
 use crate::logs::is_known;
 use crate::looking::{WritingStmt, is_written, rows_of, stop_of, writing};
@@ -137,8 +136,8 @@ fn note(met: &mut BTreeMap<RowId, u32>, id: &RowId, version: u32) -> Result<(), 
     ensures { OnOk result ((other : Identity) → get identity_cmp met.new other
         ≡ least (get identity_cmp met.old other) (f.noted other id.now version)) }
 {
-    let own = first_of(met.get(id), version);
-    met.insert(id.clone()?, own)?;
+    let first = first_of(met.get(id), version);
+    met.insert(id.clone()?, first)?;
     Ok(())
 }
 
@@ -189,8 +188,8 @@ fn conflict_text(
     ensures { IfOk result (λ text. text.items ≡ s.conflict_text name.now id.now base
         (m.committer_of version (entries log.now)) version) }
 {
-    let mut own = Vec::new(alloc);
-    write_id(alloc, id, &mut own)?;
+    let mut identity = Vec::new(alloc);
+    write_id(alloc, id, &mut identity)?;
     let base = base.to_string(alloc)?;
     let maker = log.maker(version).to_string(alloc)?;
     let version = version.to_string(alloc)?;
@@ -199,7 +198,7 @@ fn conflict_text(
         &[
             name.as_bytes(),
             b" ",
-            &own,
+            &identity,
             b" at ",
             base.as_bytes(),
             b" : ",
@@ -308,27 +307,26 @@ fn push_writing(
     alloc: Global,
     dump: &Dump,
     upto: u32,
-    own: &WritingStmt<'_>,
+    statement: &WritingStmt<'_>,
     lines: &mut Vec<Row>,
 ) -> Result<(), NoMemory>
-    requires rules { IsAnswerable (dump_view dump.now) }
-    requires own { l.IsWriting (dump_view dump.now).entries own.now }
-    requires runs { l.stop_of (dump_view dump.now) own.now.t ≡ None }
+    requires logged { l.IsWriting (dump_view dump.now).entries statement.now }
+    requires runs { l.stop_of (dump_view dump.now) statement.now.t ≡ None }
     ensures { OnOk result (lines.new.items ≡ lines.old.items ++ keyed_from (length lines.old.items)
-        (f.writing_conflicts (dump_view dump.now) upto own.now.t own.now.k
-        (statement_view own.now.stmt.now) own.now.table)) }
+        (f.writing_conflicts (dump_view dump.now) upto statement.now.t statement.now.k
+        (statement_view statement.now.stmt.now) statement.now.table)) }
 {
-    let spans = spans_of(dump, own.table);
-    let base = dump.log.version_read_by(own.t, own.k);
+    let spans = spans_of(dump, statement.table);
+    let base = dump.log.version_read_by(statement.t, statement.k);
     if !any_met(base, upto, spans) {
         return Ok(());
     }
     let met = met_in(alloc, base, upto, spans)?;
-    let rows = rows_of(alloc, dump, own)?;
+    let rows = rows_of(alloc, dump, statement)?;
     let looking = Looking {
         log: &dump.log,
-        own: *own,
-        name: &dump.log.catalog().table(own.table).name,
+        own: *statement,
+        name: &dump.log.catalog().table(statement.table).name,
         base,
         met: &met,
     };
@@ -344,7 +342,6 @@ fn push_statement(
     upto: u32,
     lines: &mut Vec<Row>,
 ) -> Result<(), NoMemory>
-    requires rules { IsAnswerable (dump_view dump.now) }
     requires known { is_known t (dump_view dump.now).entries ≡ true }
     requires first { 0 < k }
     requires most { k ≤ m.statement_count t (dump_view dump.now).entries }
@@ -354,14 +351,13 @@ fn push_statement(
         (m.statement_at t k (dump_view dump.now).entries))) }
 {
     match writing(&dump.log, t, k) {
-        Some(own) => push_writing(alloc, dump, upto, &own, lines),
+        Some(statement) => push_writing(alloc, dump, upto, &statement, lines),
         None => Ok(()),
     }
 }
 
 /// The lines of the rows that a transaction wrote, and that a commit wrote up to a version, by statement.
 fn conflict_lines(alloc: Global, dump: &Dump, t: u32, upto: u32) -> Result<Vec<Row>, NoMemory>
-    requires rules { IsAnswerable (dump_view dump.now) }
     requires known { is_known t (dump_view dump.now).entries ≡ true }
     requires runs { l.stop_of (dump_view dump.now) t ≡ None }
     ensures { IfOk result (λ lines. lines.items ≡ keyed_from 0 (f.first_conflicts (dump_view dump.now)
@@ -376,19 +372,17 @@ fn conflict_lines(alloc: Global, dump: &Dump, t: u32, upto: u32) -> Result<Vec<R
 
 /// The conflicts of a transaction that does not stop.
 fn conflicts_of(alloc: Global, dump: &Dump, t: u32) -> Result<Answered, NoMemory>
-    requires rules { IsAnswerable (dump_view dump.now) }
     requires known { is_known t (dump_view dump.now).entries ≡ true }
     requires runs { l.stop_of (dump_view dump.now) t ≡ None }
     ensures { IfOk result (λ answered. answered ≡ s.dump_conflicts (dump_view dump.now) t) }
 {
     let upto = commits_before_end(&dump.log, t);
     let lines = conflict_lines(alloc, dump, t, upto)?;
-    Ok(Answered::Conflicts(first_texts(alloc, lines)?))
+    Ok(Answered::Lines(Heading::Conflicts, first_texts(alloc, lines)?))
 }
 
 /// The conflicts of a transaction, or what it is refused for.
 fn known_conflicts(alloc: Global, dump: &Dump, t: u32) -> Result<Answered, NoMemory>
-    requires rules { IsAnswerable (dump_view dump.now) }
     requires known { is_known t (dump_view dump.now).entries ≡ true }
     ensures { IfOk result (λ answered. answered ≡ s.dump_conflicts (dump_view dump.now) t) }
 {
@@ -404,7 +398,6 @@ fn known_conflicts(alloc: Global, dump: &Dump, t: u32) -> Result<Answered, NoMem
 ///
 /// One run up to its last INSERT, which is what may pass a limit, and one up to each statement whose table was written meanwhile.
 pub fn conflicts_answer(alloc: Global, dump: &Dump, t: u64) -> Result<Answered, NoMemory>
-    requires rules { IsAnswerable (dump_view dump.now) }
     ensures { IfOk result (λ answered. answered ≡ f.conflicts_to (dump_view dump.now) t) }
 {
     if is_known(&dump.log, t) {

@@ -3,14 +3,12 @@
 ghost use Rattle.std.specs.Prelude.{◌≡◌, map, true, IfOk};
 ghost use Rattle.gp_algebra.specs.Fitting.{select_fits};
 ghost use Rattle.gp_algebra.specs.Views.{select_view};
-ghost use Rattle.gp_check.specs.Valid.{query_is_valid, tables_are_valid};
 ghost use Rattle.gp_dump.specs.Views.{dump_view};
 ghost use Rattle.gp_grammar.specs.Syntax as y;
 ghost use Rattle.gp_history.specs.Values.{HasFewItems};
 ghost use Rattle.gp_kexec.specs.Rows.{pair_view};
 ghost use Rattle.gp_log.specs.LogFacts.{tables_in};
 ghost use Rattle.gp_syntax.specs.Views.{query_view, rule_view, point_view};
-ghost use Rattle.gp_ask.specs.Answerable.{IsAnswerable, has_few_items};
 ghost use Rattle.gp_ask.specs.Computed.{computed_answer};
 ghost use Rattle.gp_ask.specs.AskingForms.{dump_remaining};
 ghost use Rattle.gp_ask.specs.Counted.{counted_answer};
@@ -22,12 +20,13 @@ use crate::answered::Answered;
 use crate::keeping::{KeptValues, rows_with_values};
 use crate::queries::asked;
 use crate::rules::left_out;
+use crate::valid::ValidQuery;
 use gp_algebra::Select;
 use gp_base::{NoMemory, Refusal, Sequence, Stop};
 use gp_dump::Dump;
 use gp_kexec::{KRow, RemainStop, remaining};
 use gp_semiring::Count;
-use gp_syntax::{Point, Query, Rule};
+use gp_syntax::{Point, Rule};
 use std::alloc::Global;
 
 /// The rows, each as often as it is counted, or E27 if there are too many.
@@ -51,7 +50,6 @@ fn selected_remaining(
     select: &Select,
     slot: &mut Option<KeptValues<Count>>,
 ) -> Result<Answered, NoMemory>
-    requires rules { IsAnswerable (dump_view dump.now) }
     requires fits { select_fits (tables_in (dump_view dump.now).entries) (select_view select.now)
         ≡ true }
     requires few { HasFewItems (select_view select.now) }
@@ -77,19 +75,16 @@ pub fn remaining_answer(
     dump: &Dump,
     rules: &[Rule],
     state: Point,
-    query: &Query,
+    query: ValidQuery<'_>,
     slot: &mut Option<KeptValues<Count>>,
 ) -> Result<Answered, NoMemory>
-    requires rules { IsAnswerable (dump_view dump.now) }
-    requires valid { tables_are_valid (tables_in (dump_view dump.now).entries) ≡ true }
-    requires query { query_is_valid (query_view query.now) ≡ true }
-    requires few { has_few_items (query_view query.now) ≡ true }
     requires kept { MayBeKeptBy (elements_by count) dump.now slot.old }
     ensures kept { MayBeKeptBy (elements_by count) dump.now slot.new }
     ensures answered { IfOk result (λ answered. answered ≡ computed_answer (dump_view dump.now) (y.ask
-        (y.of_state (y.without (map rule_view rules.now)) (point_view state)) (query_view query.now))) }
+        (y.of_state (y.without (map rule_view rules.now)) (point_view state))
+        (query_view query.entry.read.now))) }
 {
-    match asked(alloc, &dump.log, state, query) {
+    match asked(alloc, &dump.log, state, query.read) {
         Ok(select) => selected_remaining(alloc, dump, rules, state, &select, slot),
         Err(Stop::Refused(refusal)) => Ok(Answered::Refused(refusal)),
         Err(Stop::NoMemory) => Err(NoMemory),

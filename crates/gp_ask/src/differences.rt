@@ -2,13 +2,11 @@
 
 ghost use Rattle.std.specs.Prelude.{◌≡◌, ◌+◌, nat_lt, true, None, IfOk};
 ghost use Rattle.gp_base.specs.declared.limit.TheConstants.{MAX_ANSWER_ROWS};
-ghost use Rattle.gp_check.specs.Valid.{query_is_valid, side_is_valid, tables_are_valid};
+ghost use Rattle.gp_check.specs.Valid.{side_is_valid};
 ghost use Rattle.gp_dump.specs.WholeDumps.{IsDump};
 ghost use Rattle.gp_dump.specs.Views.{dump_view};
 ghost use Rattle.gp_grammar.specs.Laws.{side_has_statements};
-ghost use Rattle.gp_log.specs.LogFacts.{tables_in};
 ghost use Rattle.gp_syntax.specs.Views.{query_view, side_view, subject_view};
-ghost use Rattle.gp_ask.specs.Answerable.{has_few_items};
 ghost use Rattle.gp_ask.specs.Made.{unmade_refusal};
 ghost use Rattle.gp_ask.specs.Deltas.{delta};
 ghost use Rattle.gp_ask.specs.DifferenceForms as f;
@@ -18,10 +16,12 @@ ghost use Rattle.gp_ask.specs.Keeping.{AreKept, IsFound};
 
 use crate::answered::Answered;
 use crate::deltas::{Sizes, delta_rows, delta_sizes};
-use crate::hypothetical::{asking_refusal, changed_refusal, what_if_answer};
+use crate::hypothetical::{asking_refusal, changed_refusal};
 use crate::keeping::KeptAnnotations;
 use crate::made::{made_answer, unmade_refusal};
+use crate::remembering::what_if_kept;
 use crate::states::ask_answer;
+use crate::valid::ValidQuery;
 use gp_base::{MAX_ANSWER_ROWS, NoMemory, Refusal, Row, Sequence};
 use gp_dump::Dump;
 use gp_syntax::{Query, Side, Subject};
@@ -44,24 +44,21 @@ fn history_answer(
     dump: &Dump,
     mixed: bool,
     subject: &Subject,
-    query: &Query,
+    query: ValidQuery<'_>,
     kept: &mut KeptAnnotations,
 ) -> Result<Answered, NoMemory>
     requires rules { IsDump (dump_view dump.now) }
-    requires valid { tables_are_valid (tables_in (dump_view dump.now).entries) ≡ true }
-    requires query { query_is_valid (query_view query.now) ≡ true }
-    requires few { has_few_items (query_view query.now) ≡ true }
     requires made { mixed ≡ true → unmade_refusal (dump_view dump.now) ≡ None }
     requires kept { AreKept dump.now kept.old }
     ensures kept { AreKept dump.now kept.new }
     ensures answered { IfOk result (λ answered. answered
         ≡ f.history_of mixed (dump_view dump.now) (subject_view subject.now)
-        (query_view query.now)) }
+        (query_view query.entry.read.now)) }
 {
     if mixed {
         return made_answer(alloc, dump, subject, query, kept);
     }
-    ask_answer(alloc, dump, subject, query, kept)
+    ask_answer(alloc, dump, subject, query, &mut kept.own)
 }
 
 /// The answer to the question of a side.
@@ -70,27 +67,29 @@ fn side_answer(
     dump: &Dump,
     mixed: bool,
     side: &Side,
-    query: &Query,
+    query: ValidQuery<'_>,
     kept: &mut KeptAnnotations,
 ) -> Result<Answered, NoMemory>
     requires rules { IsDump (dump_view dump.now) }
-    requires valid { tables_are_valid (tables_in (dump_view dump.now).entries) ≡ true }
     requires statement { side_has_statements (side_view side.now) ≡ true }
     requires change { side_is_valid (side_view side.now) ≡ true }
-    requires query { query_is_valid (query_view query.now) ≡ true }
-    requires few { has_few_items (query_view query.now) ≡ true }
     requires made { mixed ≡ true → unmade_refusal (dump_view dump.now) ≡ None }
     requires kept { AreKept dump.now kept.old }
     ensures kept { AreKept dump.now kept.new }
     ensures answered { IfOk result (λ answered. answered ≡ d.side_answer
         (f.history_of mixed (dump_view dump.now)) (what_if_answer (dump_view dump.now).entries)
-        (side_view side.now) (query_view query.now)) }
+        (side_view side.now) (query_view query.entry.read.now)) }
 {
     match side {
         Side::AsIs { subject } => history_answer(alloc, dump, mixed, subject, query, kept),
-        Side::Changed { changes, subject } => {
-            what_if_answer(alloc, dump, changes.as_slice(), subject, query)
-        }
+        Side::Changed { changes, subject } => what_if_kept(
+            alloc,
+            dump,
+            changes.as_slice(),
+            subject,
+            query,
+            &mut kept.changed,
+        ),
     }
 }
 
@@ -118,7 +117,6 @@ fn side_refusal(
     query: &Query,
 ) -> Result<Option<Refusal>, NoMemory>
     requires rules { IsDump (dump_view dump.now) }
-    requires valid { tables_are_valid (tables_in (dump_view dump.now).entries) ≡ true }
     requires statement { side_has_statements (side_view side.now) ≡ true }
     ensures { IfOk result (λ refusal. refusal ≡ d.side_refusal (dump_view dump.now).entries
         (side_view side.now) (query_view query.now)) }
@@ -142,7 +140,6 @@ fn mixed_refusal(
     is_made: &mut Option<bool>,
 ) -> Result<Option<Refusal>, NoMemory>
     requires rules { IsDump (dump_view dump.now) }
-    requires valid { tables_are_valid (tables_in (dump_view dump.now).entries) ≡ true }
     requires first_statement { side_has_statements (side_view first.now) ≡ true }
     requires second_statement { side_has_statements (side_view second.now) ≡ true }
     requires kept { IsFound dump.now is_made.old }
@@ -204,24 +201,21 @@ fn sides_answer(
     mixed: bool,
     first: &Side,
     second: &Side,
-    query: &Query,
+    query: ValidQuery<'_>,
     kept: &mut KeptAnnotations,
 ) -> Result<Answered, NoMemory>
     requires rules { IsDump (dump_view dump.now) }
-    requires valid { tables_are_valid (tables_in (dump_view dump.now).entries) ≡ true }
     requires first_statement { side_has_statements (side_view first.now) ≡ true }
     requires first_change { side_is_valid (side_view first.now) ≡ true }
     requires second_statement { side_has_statements (side_view second.now) ≡ true }
     requires second_change { side_is_valid (side_view second.now) ≡ true }
-    requires query { query_is_valid (query_view query.now) ≡ true }
-    requires few { has_few_items (query_view query.now) ≡ true }
     requires made { mixed ≡ true → unmade_refusal (dump_view dump.now) ≡ None }
     requires kept { AreKept dump.now kept.old }
     ensures kept { AreKept dump.now kept.new }
     ensures answered { IfOk result (λ answered. answered ≡ f.sides_of
         (d.side_answer (f.history_of mixed (dump_view dump.now))
         (what_if_answer (dump_view dump.now).entries))
-        (side_view first.now) (side_view second.now) (query_view query.now)) }
+        (side_view first.now) (side_view second.now) (query_view query.entry.read.now)) }
 {
     let first = rows_in(alloc, side_answer(alloc, dump, mixed, first, query, kept)?);
     let second = rows_in(alloc, side_answer(alloc, dump, mixed, second, query, kept)?);
@@ -237,25 +231,22 @@ pub fn diff_answer(
     dump: &Dump,
     first: &Side,
     second: &Side,
-    query: &Query,
+    query: ValidQuery<'_>,
     kept: &mut KeptAnnotations,
 ) -> Result<Answered, NoMemory>
     requires rules { IsDump (dump_view dump.now) }
-    requires valid { tables_are_valid (tables_in (dump_view dump.now).entries) ≡ true }
     requires first_statement { side_has_statements (side_view first.now) ≡ true }
     requires first_change { side_is_valid (side_view first.now) ≡ true }
     requires second_statement { side_has_statements (side_view second.now) ≡ true }
     requires second_change { side_is_valid (side_view second.now) ≡ true }
-    requires query { query_is_valid (query_view query.now) ≡ true }
-    requires few { has_few_items (query_view query.now) ≡ true }
     requires kept { AreKept dump.now kept.old }
     ensures kept { AreKept dump.now kept.new }
     ensures answered { IfOk result (λ answered. answered ≡ d.diff_answer
         (f.history_of (d.are_mixed (side_view first.now) (side_view second.now)) (dump_view dump.now))
         (what_if_answer (dump_view dump.now).entries) (unmade_refusal (dump_view dump.now)) (dump_view dump.now).entries
-        (side_view first.now) (side_view second.now) (query_view query.now)) }
+        (side_view first.now) (side_view second.now) (query_view query.entry.read.now)) }
 {
-    match mixed_refusal(alloc, dump, first, second, query, &mut kept.is_made)? {
+    match mixed_refusal(alloc, dump, first, second, query.read, &mut kept.is_made)? {
         Some(refusal) => Ok(Answered::Refused(refusal)),
         None => {
             sides_answer(

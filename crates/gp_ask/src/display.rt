@@ -323,39 +323,11 @@ pub fn write_answer(
         Answered::Sheet(sheet) => write_rows(alloc, number, sheet.rows, out),
         Answered::Listed(rows) => write_provenance(alloc, number, rows.as_slice(), out),
         Answered::Values(rows) => write_values(alloc, number, rows.as_slice(), out),
-        Answered::Log(texts) => write_listed(alloc, number, b"log", texts.as_slice(), out),
-        Answered::Versions(texts) => write_listed(
-            alloc,
-            number,
-            b"versions",
-            texts.as_slice(),
-            out,
-        ),
-        Answered::Program(texts) => {
-            write_listed(alloc, number, b"program", texts.as_slice(), out)
+        Answered::Program(texts) => write_listed(alloc, number, b"program", texts.as_slice(), out),
+        Answered::Lines(heading, texts) => {
+            write_listed(alloc, number, heading.word(), texts.as_slice(), out)
         }
-        Answered::Transactions(texts) => write_listed(
-            alloc,
-            number,
-            b"transactions",
-            texts.as_slice(),
-            out,
-        ),
-        Answered::Changes(texts) => {
-            write_listed(alloc, number, b"changes", texts.as_slice(), out)
-        }
-        Answered::Conflicts(texts) => {
-            write_listed(alloc, number, b"conflicts", texts.as_slice(), out)
-        }
-        Answered::History(texts) => {
-            write_listed(alloc, number, b"history", texts.as_slice(), out)
-        }
-        Answered::When(texts) => write_listed(alloc, number, b"when", texts.as_slice(), out),
         Answered::Diff(rows) => write_difference(alloc, number, rows.as_slice(), out),
-        Answered::Causes(texts) => write_listed(alloc, number, b"causes", texts.as_slice(), out),
-        Answered::Serial(texts) => write_listed(alloc, number, b"serial", texts.as_slice(), out),
-        Answered::Cycle(texts) => write_listed(alloc, number, b"cycle", texts.as_slice(), out),
-        Answered::Undecided => write_listed(alloc, number, b"undecided", &[], out),
         Answered::Checked(line) => write_checked(alloc, number, line, out),
         Answered::Refused(refusal) => write_refused(alloc, number, &refusal, out),
     }

@@ -4,12 +4,10 @@ ghost use Rattle.std.specs.Prelude.{◌≡◌, ◌++◌, true, IfOk, OnErr, OnOk
 ghost use Rattle.gp_grammar.specs.Reading.{question_of};
 ghost use Rattle.gp_grammar.specs.Syntax as y;
 ghost use Rattle.gp_syntax.specs.Views.{how_view, query_view, question_view, subject_view};
-ghost use Rattle.gp_check.specs.Valid.{tables_are_valid};
 ghost use Rattle.gp_csv.specs.Answers.{csv_text};
 ghost use Rattle.gp_dump.specs.WholeDumps.{IsDump};
 ghost use Rattle.gp_dump.specs.Views.{dump_view};
 ghost use Rattle.gp_log.specs.LogFacts.{tables_in};
-ghost use Rattle.gp_ask.specs.Answerable.{question_is_valid};
 ghost use Rattle.gp_ask.specs.Computed.{computed_answer, computed_in};
 ghost use Rattle.gp_ask.specs.ExplainedTexts.{ExplainsQuestion};
 ghost use Rattle.gp_ask.specs.Formats as f;
@@ -26,11 +24,12 @@ use crate::format::Format;
 use crate::keeping::KeptAnnotations;
 use crate::sql::sql_answer;
 use crate::titles::{difference_titles, row_titles};
+use crate::valid::ValidQuestion;
 use gp_base::{Catalog, NoMemory, Refusal, Stop};
 use gp_csv::{write_answer_csv, write_refusal_csv, write_titled_csv};
 use gp_dump::Dump;
 use gp_sql::write_tables;
-use gp_syntax::{How, Query, Question, Subject, read_question};
+use gp_syntax::{How, Query, Question, Subject};
 use std::alloc::Global;
 
 /// Whether rows are asked for.
@@ -57,38 +56,23 @@ fn are_rows_of(subject: &Subject) -> bool
     }
 }
 
-/// Whether the question is a plain AS OF or REENACT.
-fn asks_rows(question: &Question) -> bool
+/// Whether the question is a plain AS OF or REENACT. Such a question is put to a [`Backend`](crate::Backend), and to a format of rows.
+pub fn asks_rows(question: &Question) -> bool
     ensures { result ≡ asks_rows (question_view question.now) }
 {
     match question {
-        Question::Transactions => false,
-        Question::Log { .. } => false,
-        Question::Versions { .. } => false,
-        Question::Changes { .. } => false,
-        Question::CommitChanges { .. } => false,
-        Question::Conflicts { .. } => false,
-        Question::History { .. } => false,
-        Question::When { .. } => false,
-        Question::Serial => false,
-        Question::Check => false,
-        Question::Diff { .. } => false,
-        Question::Causes { .. } => false,
         Question::Ask { subject, .. } => are_rows_of(subject),
-        Question::WhatIf { .. } => false,
-        Question::ExplainSaw { .. } => false,
+        _ => false,
     }
 }
 
 /// Answers a question that was read, or refuses it as one that is not exported (E30).
-fn exported(alloc: Global, dump: &Dump, question: &Question) -> Result<Answered, NoMemory>
+fn exported(alloc: Global, dump: &Dump, question: &ValidQuestion) -> Result<Answered, NoMemory>
     requires rules { IsDump (dump_view dump.now) }
-    requires valid { tables_are_valid (tables_in (dump_view dump.now).entries) ≡ true }
-    requires question { question_is_valid (question_view question.now) ≡ true }
     ensures { IfOk result (λ found. found
-        ≡ exported (computed_answer (dump_view dump.now)) (question_view question.now)) }
+        ≡ exported (computed_answer (dump_view dump.now)) (question_view question.now.read)) }
 {
-    if asks_rows(question) {
+    if asks_rows(&question.read) {
         answer(alloc, dump, question)
     } else {
         Ok(Answered::Refused(Refusal::E30))
@@ -145,18 +129,16 @@ fn titled(
 fn titled_answer(
     alloc: Global,
     dump: &Dump,
-    question: &Question,
+    question: &ValidQuestion,
     query: &Query,
     kept: &mut KeptAnnotations,
 ) -> Result<Answered, NoMemory>
     requires rules { IsDump (dump_view dump.now) }
-    requires valid { tables_are_valid (tables_in (dump_view dump.now).entries) ≡ true }
-    requires question { question_is_valid (question_view question.now) ≡ true }
     requires kept { AreKept dump.now kept.old }
     ensures kept { AreKept dump.now kept.new }
     ensures answered { IfOk result (λ found. found ≡ f.titled
         (query_names (tables_in (dump_view dump.now).entries) (query_view query.now))
-        (computed_answer (dump_view dump.now) (question_view question.now))) }
+        (computed_answer (dump_view dump.now) (question_view question.now.read))) }
 {
     let found = answer_from(alloc, dump, question, kept)?;
     titled(alloc, dump.log.catalog(), query, found)
@@ -167,19 +149,17 @@ fn titled_answer(
 fn named(
     alloc: Global,
     dump: &Dump,
-    question: &Question,
+    question: &ValidQuestion,
     kept: &mut KeptAnnotations,
 ) -> Result<Answered, NoMemory>
     requires rules { IsDump (dump_view dump.now) }
-    requires valid { tables_are_valid (tables_in (dump_view dump.now).entries) ≡ true }
-    requires question { question_is_valid (question_view question.now) ≡ true }
     requires kept { AreKept dump.now kept.old }
     ensures kept { AreKept dump.now kept.new }
     ensures answered { IfOk result (λ found. found ≡ f.named
         (tables_in (dump_view dump.now).entries) (computed_answer (dump_view dump.now))
-        (question_view question.now)) }
+        (question_view question.now.read)) }
 {
-    match question {
+    match &question.read {
         Question::Diff { query, .. } => titled_answer(alloc, dump, question, query, kept),
         Question::Ask { subject, query } if gives_rows(subject) => {
             titled_answer(alloc, dump, question, query, kept)
@@ -191,7 +171,7 @@ fn named(
     }
 }
 
-/// Answers a question that was read ([`read_questions_are_valid`](crate::read_questions_are_valid)), in a format: as [`answer`] does, but
+/// Answers a question that was read, in a format: as [`answer`] does, but
 /// CSV refuses one that is no plain AS OF or REENACT (E30), CSV with names one that does not ask for rows, or for their difference, and SQL
 /// one that is no AS OF or REENACT, plain or explained, whatever it would have been refused for otherwise. Running out of memory is the
 /// only error.
@@ -199,19 +179,18 @@ fn answer_in(
     alloc: Global,
     format: Format,
     dump: &Dump,
-    question: &Question,
+    question: &ValidQuestion,
     kept: &mut KeptAnnotations,
 ) -> Result<Answered, NoMemory>
     requires rules { IsDump (dump_view dump.now) }
-    requires valid { tables_are_valid (tables_in (dump_view dump.now).entries) ≡ true }
-    requires question { question_is_valid (question_view question.now) ≡ true }
     requires kept { AreKept dump.now kept.old }
     ensures kept { AreKept dump.now kept.new }
     ensures answered { IfOk result (λ found. found
         ≡ answers_in format (tables_in (dump_view dump.now).entries)
-        (computed_in format (dump_view dump.now)) (question_view question.now)) }
+        (computed_in format (dump_view dump.now)) (question_view question.now.read)) }
     ensures explained { IfOk result (λ found.
-        ExplainsIn format (ExplainsQuestion (dump_view dump.now).entries (question_view question.now))) }
+        ExplainsIn format (ExplainsQuestion (dump_view dump.now).entries
+        (question_view question.now.read))) }
 {
     match format {
         Format::Text => answer_from(alloc, dump, question, kept),
@@ -236,7 +215,6 @@ pub fn answer_line_in(
     kept: &mut KeptAnnotations,
 ) -> Result<Answered, NoMemory>
     requires rules { IsDump (dump_view dump.now) }
-    requires valid { tables_are_valid (tables_in (dump_view dump.now).entries) ≡ true }
     requires kept { AreKept dump.now kept.old }
     ensures kept { AreKept dump.now kept.new }
     ensures answered { IfOk result (λ found. found
@@ -245,7 +223,7 @@ pub fn answer_line_in(
     ensures explained { IfOk result (λ found.
         ExplainsIn format (ExplainsRead (dump_view dump.now).entries (question_of line.now))) }
 {
-    match read_question(alloc, line) {
+    match ValidQuestion::of_line(alloc, line) {
         Ok(question) => {
             let found = answer_in(alloc, format, dump, &question, kept);
             drop(question);
@@ -260,7 +238,6 @@ pub fn answer_line_in(
 /// [`read_question`](gp_syntax::read_question) refuses it, any other as [`answer`] does. Running out of memory is the only error.
 pub fn answer_line(alloc: Global, dump: &Dump, line: &[u8]) -> Result<Answered, NoMemory>
     requires rules { IsDump (dump_view dump.now) }
-    requires valid { tables_are_valid (tables_in (dump_view dump.now).entries) ≡ true }
     ensures answered { IfOk result (λ found. found
         ≡ answered (computed_answer (dump_view dump.now)) (question_of line.now)) }
     ensures explained { IfOk result (λ found.
@@ -287,19 +264,9 @@ fn exported_text(alloc: Global, number: u32, answered: &Answered) -> Result<Vec<
         Answered::Refused(refusal) => write_refusal_csv(alloc, number, refusal),
         Answered::Listed(_)
         | Answered::Values(_)
-        | Answered::Log(_)
-        | Answered::Versions(_)
         | Answered::Program(_)
-        | Answered::Transactions(_)
-        | Answered::Changes(_)
-        | Answered::Conflicts(_)
-        | Answered::History(_)
-        | Answered::When(_)
+        | Answered::Lines(..)
         | Answered::Diff(_)
-        | Answered::Causes(_)
-        | Answered::Serial(_)
-        | Answered::Cycle(_)
-        | Answered::Undecided
         | Answered::Checked(_) => write_refusal_csv(alloc, number, &Refusal::E30),
     }
 }

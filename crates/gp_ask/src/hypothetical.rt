@@ -2,20 +2,18 @@
 
 ghost use Rattle.std.specs.Prelude.{◌≡◌, ◌<◌, ◌≤◌, None, Ok, Some, true, IfOk, List, length};
 ghost use Rattle.gp_base.specs.declared.refusal.Refusal.TheVariants.{E31};
-ghost use Rattle.gp_check.specs.Valid.{changes_are_valid, query_is_valid, tables_are_valid};
+ghost use Rattle.gp_check.specs.Valid.{changes_are_valid, tables_are_valid};
 ghost use Rattle.gp_dump.specs.WholeDumps.{IsDump};
 ghost use Rattle.gp_dump.specs.Views.{dump_view};
 ghost use Rattle.gp_grammar.specs.Laws.{have_statements};
 ghost use Rattle.gp_grammar.specs.Syntax as y;
 ghost use Rattle.gp_log.specs.Contents.{commits, entries, tables};
-ghost use Rattle.gp_log.specs.LogFacts.{tables_in};
 ghost use Rattle.gp_log.specs.Parameters.{parameters};
 ghost use Rattle.gp_machine.specs.Entries.{Entry, committer_of, versions_in};
 ghost use Rattle.gp_machine.specs.Event.{name_at};
 ghost use Rattle.gp_syntax.specs.Views.{changes_view, how_view, query_view, point_view, subject_view};
 ghost use Rattle.gp_whatif.specs.Changed.{changed_log};
 ghost use Rattle.gp_whatif.specs.Replays.{IsMade, IsReplayable};
-ghost use Rattle.gp_ask.specs.Answerable.{has_few_items};
 ghost use Rattle.gp_ask.specs.Computed.{computed_answer};
 ghost use Rattle.gp_ask.specs.Differences as d;
 ghost use Rattle.gp_ask.specs.Printed.{query_to};
@@ -27,12 +25,13 @@ ghost use Rattle.gp_ask.specs.Values.{unless_refused};
 ghost use Rattle.gp_whatif.specs.Remaking as r;
 
 use crate::answered::Answered;
-use crate::keeping::KeptAnnotations;
+use crate::keeping::DumpAnnotations;
 use crate::laws::changed_histories_answer_their_questions;
 use crate::programs::program_answer;
 use crate::queries::asked;
 use crate::seeing::seen;
 use crate::states::ask_answer;
+use crate::valid::ValidQuery;
 use crate::values::rules_refusal;
 use gp_base::{Limit, NoMemory, Refusal, RowId, Sequence, Stop};
 use gp_dump::Dump;
@@ -108,7 +107,6 @@ pub(crate) fn changed_refusal(
     query: &Query,
 ) -> Result<Option<Refusal>, NoMemory>
     requires rules { IsDump (dump_view dump.now) }
-    requires valid { tables_are_valid (tables_in (dump_view dump.now).entries) ≡ true }
     requires statements { have_statements (changes_view changes.now) ≡ true }
     ensures { IfOk result (λ refusal. refusal ≡ d.refusal_on
         (changed_log parameters (dump_view dump.now).entries (changes_view changes.now))
@@ -169,17 +167,15 @@ fn replayed_answer(
     log: Log,
     made: Made,
     subject: &Subject,
-    query: &Query,
+    query: ValidQuery<'_>,
 ) -> Result<Answered, NoMemory>
     requires replayable { IsReplayable (entries log) }
     requires within { made.count ≤ versions_in (entries log) }
     requires made { IsMade (entries log) made.count made.versions.items }
     requires valid { tables_are_valid (tables log) ≡ true }
-    requires query { query_is_valid (query_view query.now) ≡ true }
-    requires few { has_few_items (query_view query.now) ≡ true }
     ensures { IfOk result (λ answered. answered
         ≡ unless_refused (h.remaking_refusal (entries log)) (query_to (replayed_dump (entries log))
-        (subject_view subject.now) (query_view query.now))) }
+        (subject_view subject.now) (query_view query.entry.read.now))) }
 {
     // The order of the row versions changes no answer. The call does nothing.
     changed_histories_answer_their_questions();
@@ -187,7 +183,7 @@ fn replayed_answer(
         Ok(versions) => {
             let versions = Sequence::from_vec(versions);
             let dump = Dump { log, versions };
-            let mut kept = KeptAnnotations::new();
+            let mut kept = DumpAnnotations::new();
             ask_answer(alloc, &dump, subject, query, &mut kept)
         }
         Err(stop) => Ok(Answered::Refused(remaking_refusal(&log, stop)?)),
@@ -199,16 +195,13 @@ pub(crate) fn remade_history_answer(
     alloc: Global,
     dump: &Dump,
     subject: &Subject,
-    query: &Query,
+    query: ValidQuery<'_>,
 ) -> Result<Answered, NoMemory>
     requires rules { IsDump (dump_view dump.now) }
-    requires valid { tables_are_valid (tables_in (dump_view dump.now).entries) ≡ true }
-    requires query { query_is_valid (query_view query.now) ≡ true }
-    requires few { has_few_items (query_view query.now) ≡ true }
     requires made { h.remaking_refusal (dump_view dump.now).entries ≡ None }
     ensures { IfOk result (λ answered. answered
         ≡ query_to (replayed_dump (dump_view dump.now).entries) (subject_view subject.now)
-        (query_view query.now)) }
+        (query_view query.entry.read.now)) }
 {
     // The lines of a log are those of a script. The call does nothing.
     changed_lines_rise();
@@ -228,20 +221,18 @@ fn remade_rows(
     log: Log,
     made: Made,
     subject: &Subject,
-    query: &Query,
+    query: ValidQuery<'_>,
 ) -> Result<Answered, NoMemory>
     requires replayable { IsReplayable (entries log) }
     requires within { made.count ≤ versions_in (entries log) }
     requires made { IsMade (entries log) made.count made.versions.items }
     requires valid { tables_are_valid (tables log) ≡ true }
-    requires query { query_is_valid (query_view query.now) ≡ true }
-    requires few { has_few_items (query_view query.now) ≡ true }
     ensures { IfOk result (λ answered. answered ≡ unless_refused (h.asking_refusal (entries log)
-        (subject_view subject.now) (query_view query.now))
+        (subject_view subject.now) (query_view query.entry.read.now))
         (unless_refused (h.remaking_refusal (entries log)) (query_to (replayed_dump (entries log))
-        (subject_view subject.now) (query_view query.now)))) }
+        (subject_view subject.now) (query_view query.entry.read.now)))) }
 {
-    match asking_refusal(alloc, &log, subject, query)? {
+    match asking_refusal(alloc, &log, subject, query.read)? {
         Some(refusal) => Ok(Answered::Refused(refusal)),
         None => replayed_answer(alloc, log, made, subject, query),
     }
@@ -253,19 +244,17 @@ fn remade_answer(
     log: Log,
     made: Made,
     subject: &Subject,
-    query: &Query,
+    query: ValidQuery<'_>,
 ) -> Result<Answered, NoMemory>
     requires replayable { IsReplayable (entries log) }
     requires within { made.count ≤ versions_in (entries log) }
     requires made { IsMade (entries log) made.count made.versions.items }
     requires valid { tables_are_valid (tables log) ≡ true }
-    requires query { query_is_valid (query_view query.now) ≡ true }
-    requires few { has_few_items (query_view query.now) ≡ true }
     ensures answered { IfOk result (λ answered. answered
         ≡ h.remade_answer program_lines (query_to (replayed_dump (entries log))) (entries log)
-        (subject_view subject.now) (query_view query.now)) }
+        (subject_view subject.now) (query_view query.entry.read.now)) }
     ensures explained { IfOk result (λ answered. ExplainsQuestion (entries log)
-        (y.ask (subject_view subject.now) (query_view query.now))) }
+        (y.ask (subject_view subject.now) (query_view query.entry.read.now))) }
 {
     match subject {
         Subject::State { how, state } => match how {
@@ -284,22 +273,19 @@ pub fn what_if_from(
     changes: &[LogChange],
     made: Made,
     subject: &Subject,
-    query: &Query,
+    query: ValidQuery<'_>,
 ) -> Result<Answered, NoMemory>
     requires rules { IsDump (dump_view dump.now) }
-    requires valid { tables_are_valid (tables_in (dump_view dump.now).entries) ≡ true }
     requires statements { have_statements (changes_view changes.now) ≡ true }
     requires changes { changes_are_valid (changes_view changes.now) ≡ true }
-    requires query { query_is_valid (query_view query.now) ≡ true }
-    requires few { has_few_items (query_view query.now) ≡ true }
     requires made { (new : List Entry)
         → changed_log parameters (dump_view dump.now).entries (changes_view changes.now) ≡ Ok new
         → (made.count ≤ versions_in new) × IsMade new made.count made.versions.items }
     ensures answered { IfOk result (λ answered. answered ≡ computed_answer (dump_view dump.now) (y.what_if
-        (changes_view changes.now) (subject_view subject.now) (query_view query.now))) }
+        (changes_view changes.now) (subject_view subject.now) (query_view query.entry.read.now))) }
     ensures explained { IfOk result (λ answered. ExplainsQuestion (dump_view dump.now).entries
         (y.what_if (changes_view changes.now) (subject_view subject.now)
-        (query_view query.now))) }
+        (query_view query.entry.read.now))) }
 {
     // The lines of a log are those of a script, and a changed log has its tables. The calls do nothing.
     changed_lines_rise();
@@ -323,19 +309,16 @@ pub fn what_if_answer(
     dump: &Dump,
     changes: &[LogChange],
     subject: &Subject,
-    query: &Query,
+    query: ValidQuery<'_>,
 ) -> Result<Answered, NoMemory>
     requires rules { IsDump (dump_view dump.now) }
-    requires valid { tables_are_valid (tables_in (dump_view dump.now).entries) ≡ true }
     requires statements { have_statements (changes_view changes.now) ≡ true }
     requires changes { changes_are_valid (changes_view changes.now) ≡ true }
-    requires query { query_is_valid (query_view query.now) ≡ true }
-    requires few { has_few_items (query_view query.now) ≡ true }
     ensures answered { IfOk result (λ answered. answered ≡ computed_answer (dump_view dump.now) (y.what_if
-        (changes_view changes.now) (subject_view subject.now) (query_view query.now))) }
+        (changes_view changes.now) (subject_view subject.now) (query_view query.entry.read.now))) }
     ensures explained { IfOk result (λ answered. ExplainsQuestion (dump_view dump.now).entries
         (y.what_if (changes_view changes.now) (subject_view subject.now)
-        (query_view query.now))) }
+        (query_view query.entry.read.now))) }
 {
     // A changed log has the tables of the log. The call does nothing.
     changed_logs_are_replayable();

@@ -4,20 +4,19 @@ ghost use Rattle.std.specs.Prelude.{◌≡◌, ◌++◌, ◌<◌, ◌≤◌, ◌
 ghost use Rattle.std.specs.List.{list_any, zip};
 ghost use Rattle.gp_algebra.specs.Fitting.{select_fits};
 ghost use Rattle.gp_algebra.specs.Views.{select_view};
-ghost use Rattle.gp_check.specs.Valid.{query_is_valid, tables_are_valid};
 ghost use Rattle.gp_dump.specs.Views.{dump_view};
 ghost use Rattle.gp_log.specs.LogFacts.{tables_in};
 ghost use Rattle.gp_machine.specs.Entries as m;
 ghost use Rattle.gp_syntax.specs.Views.{query_view};
-ghost use Rattle.gp_ask.specs.Answerable.{IsAnswerable};
 ghost use Rattle.gp_ask.specs.IntervalForms as f;
 ghost use Rattle.gp_ask.specs.Intervals as s;
 
-use crate::answered::Answered;
+use crate::answered::{Answered, Heading};
 use crate::changes::ends_at;
 use crate::deltas::add_cells;
-use crate::row_lines::sorted_texts;
+use crate::row_lines::listed;
 use crate::row_versions::spans_of;
+use crate::valid::ValidQuery;
 use gp_algebra::Select;
 use gp_base::{
     Cell, MAX_ANSWER_ROWS, NoMemory, Refusal, Row, Stop, Text, sort_rows, text_of_pieces, write_row,
@@ -25,7 +24,7 @@ use gp_base::{
 use gp_check::check_query;
 use gp_dump::Dump;
 use gp_reenact::reenact;
-use gp_syntax::{Point, Query};
+use gp_syntax::Point;
 use gp_versions::Span;
 use std::alloc::Global;
 use std::cmp::Ordering;
@@ -127,23 +126,13 @@ fn push_interval(
     ensures { OnOk result (rows.new.items ≡ rows.old.items
         ++ f.interval_row (record { row = row.now; from = from; to = to }) ∷ []) }
 {
-    let mut own = Row::new(alloc);
-    add_cells(&mut own, row.cells())?;
-    own.push(Cell::Int(i64::from(from)))?;
-    own.push(end_cell(alloc, to)?)?;
-    own.push(Cell::Text(interval_text(alloc, row, from, to)?))?;
-    rows.push(own)?;
+    let mut interval = Row::new(alloc);
+    add_cells(&mut interval, row.cells())?;
+    interval.push(Cell::Int(i64::from(from)))?;
+    interval.push(end_cell(alloc, to)?)?;
+    interval.push(Cell::Text(interval_text(alloc, row, from, to)?))?;
+    rows.push(interval)?;
     Ok(())
-}
-
-/// The lines of intervals, in order, unless there are too many.
-fn listed(alloc: Global, rows: Vec<Row>) -> Result<Answered, NoMemory>
-    ensures { IfOk result (λ answered. answered ≡ f.listed rows.items) }
-{
-    if rows.len() > MAX_ANSWER_ROWS {
-        return Ok(Answered::Refused(Refusal::E27));
-    }
-    Ok(Answered::When(sorted_texts(alloc, rows)?))
 }
 
 // ---- from one version to the next
@@ -207,7 +196,6 @@ fn carried(
 
 /// The rows of a checked query over a version, in row order.
 fn rows_at(alloc: Global, dump: &Dump, version: u32, select: &Select) -> Result<Vec<Row>, Stop>
-    requires rules { IsAnswerable (dump_view dump.now) }
     requires fits { select_fits (tables_in (dump_view dump.now).entries) (select_view select.now)
         ≡ true }
     requires within { version ≤ m.versions_in (dump_view dump.now).entries }
@@ -231,7 +219,6 @@ fn step(
     open: &mut Open,
     ended: &mut Vec<Row>,
 ) -> Result<(), Stop>
-    requires rules { IsAnswerable (dump_view dump.now) }
     requires fits { select_fits (tables_in (dump_view dump.now).entries) (select_view select.now)
         ≡ true }
     requires within { version ≤ m.versions_in (dump_view dump.now).entries }
@@ -257,7 +244,6 @@ fn go_on(
     open: &mut Open,
     ended: &mut Vec<Row>,
 ) -> Result<(), Stop>
-    requires rules { IsAnswerable (dump_view dump.now) }
     requires fits { select_fits (tables_in (dump_view dump.now).entries) (select_view select.now)
         ≡ true }
     requires within { before < m.versions_in (dump_view dump.now).entries }
@@ -295,7 +281,6 @@ fn push_open(alloc: Global, open: &Open, ended: &mut Vec<Row>) -> Result<(), NoM
 
 /// All intervals, those that ended first, as rows with their ends and their lines.
 fn interval_rows(alloc: Global, dump: &Dump, select: &Select) -> Result<Vec<Row>, Stop>
-    requires rules { IsAnswerable (dump_view dump.now) }
     requires fits { select_fits (tables_in (dump_view dump.now).entries) (select_view select.now)
         ≡ true }
     ensures { f.AreIntervals (dump_view dump.now) (select_view select.now) (λ rows. rows.items)
@@ -316,14 +301,13 @@ fn interval_rows(alloc: Global, dump: &Dump, select: &Select) -> Result<Vec<Row>
 
 /// The intervals of a checked query.
 fn selected_intervals(alloc: Global, dump: &Dump, select: &Select) -> Result<Answered, NoMemory>
-    requires rules { IsAnswerable (dump_view dump.now) }
     requires fits { select_fits (tables_in (dump_view dump.now).entries) (select_view select.now)
         ≡ true }
     ensures { IfOk result (λ answered. answered
         ≡ f.checked_when (dump_view dump.now) (select_view select.now)) }
 {
     match interval_rows(alloc, dump, select) {
-        Ok(rows) => listed(alloc, rows),
+        Ok(rows) => listed(alloc, Heading::When, rows),
         Err(Stop::Refused(refusal)) => Ok(Answered::Refused(refusal)),
         Err(Stop::NoMemory) => Err(NoMemory),
     }
@@ -335,14 +319,11 @@ fn selected_intervals(alloc: Global, dump: &Dump, select: &Select) -> Result<Ans
 /// more than [`MAX_ANSWER_ROWS`] (E27).
 ///
 /// The query is asked of version 0 and of each version that wrote one of its tables; over the others its answer is the one before.
-pub fn when_answer(alloc: Global, dump: &Dump, query: &Query) -> Result<Answered, NoMemory>
-    requires rules { IsAnswerable (dump_view dump.now) }
-    requires valid { tables_are_valid (tables_in (dump_view dump.now).entries) ≡ true }
-    requires query { query_is_valid (query_view query.now) ≡ true }
+pub fn when_answer(alloc: Global, dump: &Dump, query: ValidQuery<'_>) -> Result<Answered, NoMemory>
     ensures { IfOk result (λ answered. answered
-        ≡ f.when_to (dump_view dump.now) (query_view query.now)) }
+        ≡ f.when_to (dump_view dump.now) (query_view query.entry.read.now)) }
 {
-    match check_query(alloc, dump.log.catalog(), query) {
+    match check_query(alloc, dump.log.catalog(), query.read) {
         Ok(select) => selected_intervals(alloc, dump, &select),
         Err(Stop::Refused(refusal)) => Ok(Answered::Refused(refusal)),
         Err(Stop::NoMemory) => Err(NoMemory),

@@ -1,6 +1,7 @@
-//! What one question about a dump leaves to the next: annotations of row versions, and what was found of the commits of the log, made again.
+//! What one question about a dump leaves to the next: annotations of row versions, what was found of the commits of the log, made again, and
+//! the history with the changes that were asked about last.
 
-ghost use Rattle.std.specs.Prelude.{◌≡◌, map, true, ℕ, List, Option};
+ghost use Rattle.std.specs.Prelude.{◌≡◌, map, true, ℕ, List, None, Option, IfOk};
 ghost use Rattle.gp_algebra.specs.Fitting.{select_fits};
 ghost use Rattle.gp_algebra.specs.Views.{select_view};
 ghost use Rattle.gp_base.specs.Annotated.{Annotations};
@@ -15,19 +16,19 @@ ghost use Rattle.gp_log.specs.LogFacts.{tables_in};
 ghost use Rattle.gp_log.specs.Parameters.{parameters};
 ghost use Rattle.gp_semiring.specs.Values.{token_value};
 ghost use Rattle.gp_semiring.specs.declared.rules.Rule as v;
-ghost use Rattle.gp_syntax.specs.Views.{point_view};
-ghost use Rattle.gp_ask.specs.Answerable.{IsAnswerable};
+ghost use Rattle.gp_syntax.specs.Views.{change_view, changes_view, point_view};
 ghost use Rattle.gp_ask.specs.Asking.{table_spans};
-ghost use Rattle.gp_ask.specs.Keeping.{AreKept, MayBeKeptBy, MayBeKeptOf};
+ghost use Rattle.gp_ask.specs.Keeping.{AreAnnotations, AreKept, HasChanges, MayBeChanged, MayBeKeptBy, MayBeKeptOf, MayHaveChanges};
 
+use crate::comparing::are_same_changes;
 use crate::rules::{are_same, copy_rules};
 use gp_algebra::Select;
-use gp_base::{Monomial, Stop};
+use gp_base::{Monomial, NoMemory, Sequence, Stop};
 use gp_dump::Dump;
 use gp_history::{Kept, values_from};
 use gp_kexec::KRow;
 use gp_semiring::{Bool, Cost, Count, Level, Poly, PosBool, Rules, Semiring, by_rules};
-use gp_syntax::Point;
+use gp_syntax::{LogChange, Point};
 use std::alloc::Global;
 use std::mem;
 
@@ -39,10 +40,9 @@ pub struct KeptValues<K> {
 }
 
 /// The annotations of the row versions of one dump that questions about it have needed. A question goes on from them: it annotates only
-/// the versions that none before it needed. Values are kept by the rules of the last question in their semiring. Once a question has
-/// compared the row versions with those that the log makes, later ones do not.
+/// the versions that none before it needed. Values are kept by the rules of the last question in their semiring.
 #[derive(Drop)]
-pub struct KeptAnnotations {
+pub struct DumpAnnotations {
     /// Monomials.
     pub monomials: Option<Kept<Monomial>>,
     /// Values in COUNT.
@@ -59,16 +59,14 @@ pub struct KeptAnnotations {
     pub witness: Option<KeptValues<PosBool>>,
     /// How often rows occur without those that WITHOUT leaves out.
     pub without: Option<KeptValues<Count>>,
-    /// Whether the row versions are those that the log makes, once all versions were found to have the rows that the log makes.
-    pub is_made: Option<bool>,
 }
 
-impl KeptAnnotations {
+impl DumpAnnotations {
     /// None yet, for any dump.
-    pub fn new() -> KeptAnnotations
-        ensures { (dump : d.Dump) → AreKept dump result }
+    pub fn new() -> DumpAnnotations
+        ensures { (dump : d.Dump) → AreAnnotations dump result }
     {
-        KeptAnnotations {
+        DumpAnnotations {
             monomials: None,
             count: None,
             bool: None,
@@ -77,10 +75,47 @@ impl KeptAnnotations {
             poly: None,
             witness: None,
             without: None,
-            is_made: None,
         }
     }
 }
+
+/// A history with changes: the dump that the changed log makes, and its annotations.
+#[derive(Drop)]
+pub struct KeptHistory {
+    /// The changes.
+    pub changes: Sequence<LogChange>,
+    /// The dump.
+    pub dump: Dump,
+    /// Its annotations.
+    pub annotations: DumpAnnotations,
+}
+
+/// What questions about a dump leave to later ones. Once a question has compared the row versions with those that the log makes, later ones
+/// do not. Questions with the same changes, one after another, share the history that these make.
+#[derive(Drop)]
+pub struct KeptAnnotations {
+    /// The annotations of the dump.
+    pub own: DumpAnnotations,
+    /// Whether the row versions are those that the log makes, once all versions were found to have the rows that the log makes.
+    pub is_made: Option<bool>,
+    /// The history with the changes that were asked about last.
+    pub changed: Option<KeptHistory>,
+}
+
+impl KeptAnnotations {
+    /// None yet, for any dump.
+    pub fn new() -> KeptAnnotations
+        ensures { (dump : d.Dump) → AreKept dump result }
+    {
+        KeptAnnotations {
+            own: DumpAnnotations::new(),
+            is_made: None,
+            changed: None,
+        }
+    }
+}
+
+// ---- values
 
 /// The values, if they are by these rules.
 fn by_same_rules<K: Drop>(values: KeptValues<K>, rules: &Rules) -> Option<Kept<K>>
@@ -129,7 +164,6 @@ pub fn rows_with_values<K: Semiring>(
     rules: Rules,
     slot: &mut Option<KeptValues<K>>,
 ) -> Result<Vec<KRow<K>>, Stop>
-    requires rules { IsAnswerable (dump_view dump.now) }
     requires fits { select_fits (tables_in (dump_view dump.now).entries) (select_view select.now)
         ≡ true }
     requires few { HasFewItems (select_view select.now) }
@@ -141,9 +175,9 @@ pub fn rows_with_values<K: Semiring>(
         (tables_in (dump_view dump.now).entries) (dump_view dump.now).entries
         (table_spans (dump_view dump.now).tables) (point_view state) (select_view select.now)) }
 {
-    let own = copy_rules(alloc, &rules)?;
+    let copy = copy_rules(alloc, &rules)?;
     let valuation = by_rules::<K>(alloc, rules)?;
-    let mut kept = take_values(slot, &own);
+    let mut kept = take_values(slot, &copy);
     let found = values_from(
         alloc,
         &dump.log,
@@ -153,6 +187,63 @@ pub fn rows_with_values<K: Semiring>(
         &valuation,
         &mut kept,
     );
-    *slot = with_rules(own, kept);
+    *slot = with_rules(copy, kept);
     found
+}
+
+// ---- histories with changes
+
+/// A copy of a change, which shares its command.
+fn copy_change(change: &LogChange) -> Result<LogChange, NoMemory>
+    ensures { IfOk result (λ copy. change_view copy ≡ change_view change.now) }
+{
+    match change {
+        LogChange::Drop { t, k } => Ok(LogChange::Drop { t: *t, k: *k }),
+        LogChange::DropAll { t } => Ok(LogChange::DropAll { t: *t }),
+        LogChange::Replace { t, k, command } => Ok(LogChange::Replace {
+            t: *t,
+            k: *k,
+            command: command.clone()?,
+        }),
+        LogChange::Add { t, command } => Ok(LogChange::Add {
+            t: *t,
+            command: command.clone()?,
+        }),
+    }
+}
+
+/// Copies of changes.
+pub fn copy_changes(alloc: Global, changes: &[LogChange]) -> Result<Sequence<LogChange>, NoMemory>
+    ensures { IfOk result (λ copies. changes_view copies ≡ changes_view changes.now) }
+{
+    let mut copies = Sequence::new(alloc);
+    for change in changes {
+        copies.push(copy_change(change)?)?;
+    }
+    Ok(copies)
+}
+
+/// The history, if it is the one with these changes.
+fn with_changes(own: KeptHistory, changes: &[LogChange]) -> Option<KeptHistory>
+    ensures { (dump : d.Dump) → HasChanges dump (changes_view own.changes) own
+        → MayHaveChanges dump (changes_view changes.now) result }
+{
+    if are_same_changes(own.changes.as_slice(), changes) {
+        Some(own)
+    } else {
+        drop(own);
+        None
+    }
+}
+
+/// Takes the history out, if it is the one with these changes.
+pub fn take_history(slot: &mut Option<KeptHistory>, changes: &[LogChange]) -> Option<KeptHistory>
+    ensures taken { slot.new ≡ None }
+    ensures history { (dump : d.Dump) → MayBeChanged dump slot.old
+        → MayHaveChanges dump (changes_view changes.now) result }
+{
+    match mem::replace(slot, None) {
+        Some(own) => with_changes(own, changes),
+        None => None,
+    }
 }

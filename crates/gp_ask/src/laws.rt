@@ -59,7 +59,8 @@ ghost use Rattle.gp_ask.specs.SerialAnswers.{serial_answer};
 ghost use Rattle.gp_ask.specs.SerialHistories.{RunsInCycle, RunsSerially};
 ghost use Rattle.gp_ask.specs.ShownWrites.{ShowsWrites};
 ghost use Rattle.gp_ask.specs.SqlAnswers.{AreStored, AsksLines};
-ghost use Rattle.gp_ask.specs.declared.answered.Answered.TheVariants.{Cycle, Serial};
+ghost use Rattle.gp_ask.specs.declared.answered.Answered.TheVariants.{Lines};
+ghost use Rattle.gp_ask.specs.declared.answered.Heading.TheVariants.{Cycle, Serial};
 
 use gp_algebra::annotations_commute;
 use gp_base::Monomial as BaseMonomial;
@@ -337,7 +338,7 @@ pub fn intervals_agree_with_versions()
     ensures bags { (answers : ℕ → List (List Cell))
         → ((version : ℕ) → IsSorted row_cmp (answers version))
         → (last version : ℕ) → version ≤ last
-        → IsPermutation (map (λ own. own.row) (filter (has_version version) (intervals answers last)))
+        → IsPermutation (map (λ interval. interval.row) (filter (has_version version) (intervals answers last)))
         (answers version) }
     ensures rows { (dump : Dump) (query : y.Query) (version : ℕ)
         → version ≤ versions_in dump.entries
@@ -350,10 +351,10 @@ pub fn intervals_agree_with_versions()
 /// and do what they did (`serial`), and each line of a cycle is true (`cycle`). No history is refused (`answered`).
 pub fn serial_answers_are_true()
     ensures serial { (lines : List Line) (texts : List (List ℕ))
-        → serial_answer (dump_of (after unannotated parameters start lines)) ≡ Serial texts
+        → serial_answer (dump_of (after unannotated parameters start lines)) ≡ Lines Serial texts
         → RunsSerially (after unannotated parameters start lines) texts }
     ensures cycle { (lines : List Line) (texts : List (List ℕ))
-        → serial_answer (dump_of (after unannotated parameters start lines)) ≡ Cycle texts
+        → serial_answer (dump_of (after unannotated parameters start lines)) ≡ Lines Cycle texts
         → RunsInCycle (after unannotated parameters start lines) texts }
     ensures answered { (lines : List Line)
         → is_refused (serial_answer (dump_of (after unannotated parameters start lines))) ≡ false }

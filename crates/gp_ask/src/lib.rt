@@ -12,14 +12,14 @@
 //! a line, [`answer_by`] a plain AS OF or REENACT by what a [`Backend`] gives, of which [`Plain`] is the executor, and
 //! [`write_answer`] writes the answer. [`answer_line_in`] and [`write_answer_in`] do the same in a [`Format`]: as text, as CSV or as SQL. The
 //! lines of a file share their [`KeptAnnotations`], so that the row versions of a dump are annotated once for all its questions, and
-//! compared once with those that its log makes. In
+//! compared once with those that its log makes, and questions with the same changes share the history that these make. In
 //! `specs/`, `Asking` and `Answers` say what the answer is, whichever programs answer explained queries (`Printed` with those that are printed, `Computed` as it is
 //! computed), `Explained` what these programs say, `Hypothetical` what the history answers that would have been, `Formats`
 //! which answers are exported as CSV and asked in SQL, `Titles` under which titles, `SqlAnswers` what a query of SQL gives, `Questions` which answers the lines of a file get (`QuestionFiles` by its bytes), and `Texts` how they are written. `Values` has
 //! the semirings and the rules of VALUE IN, `Witnesses` the minimal witnesses of rows, and `Remaining` what remains for WITHOUT. Inside,
 //! `logs` answers LOG, `row_versions` VERSIONS, `asking` any question about a state, by `queries` AS OF and REENACT, by `provenance`
 //! PROVENANCE OF, by `values` VALUE IN, by `deletion` WITHOUT, by `programs` EXPLAIN and by `sql` what is asked in SQL, and `hypothetical` WHATIF. `keeping` has what
-//! one question leaves to the next.
+//! one question leaves to the next, of which `remembering` keeps the history with changes.
 //!
 //! ```text
 //! let answered = answer_line(alloc, &dump, b"as of 2 select * from acct")?;
@@ -33,6 +33,7 @@ mod answering;
 mod causes;
 mod changes;
 mod checked;
+mod comparing;
 mod conflicts;
 mod copying;
 mod deletion;
@@ -52,6 +53,7 @@ mod narrowing;
 mod programs;
 mod provenance;
 mod queries;
+mod remembering;
 mod row_histories;
 mod row_lines;
 mod row_versions;
@@ -62,12 +64,13 @@ mod sql;
 mod states;
 mod titles;
 mod transactions;
+mod valid;
 mod values;
 
-pub use answered::{Answered, Sheet, Valued};
+pub use answered::{Answered, Heading, Sheet, Valued};
 pub use answering::{answer, answer_by};
 pub use display::write_answer;
-pub use exporting::{answer_line, answer_line_in, write_answer_in, write_heading_in};
+pub use exporting::{answer_line, answer_line_in, asks_rows, write_answer_in, write_heading_in};
 pub use format::Format;
 pub use gp_exec::{Backend, Plain};
 pub use keeping::KeptAnnotations;
@@ -80,3 +83,4 @@ pub use laws::{
     replays_answer_as_their_histories, row_versions_are_stored, serial_answers_are_true,
     unstopped_histories_answer_as_their_dumps,
 };
+pub use valid::ValidQuestion;

@@ -9,7 +9,7 @@ ghost use Rattle.gp_dumpline.specs.Texts.{entry_text};
 ghost use Rattle.gp_ask.specs.Lines as a;
 ghost use Rattle.gp_ask.specs.Lines.{entries_of, transaction_lines};
 
-use crate::answered::Answered;
+use crate::answered::{Answered, Heading};
 use gp_base::{NoMemory, Refusal, Sequence, Text};
 use gp_dumpline::write_entry;
 use gp_log::{Entry, Log, What};
@@ -72,7 +72,7 @@ pub fn log_answer(alloc: Global, log: &Log, t: u64) -> Result<Answered, NoMemory
     ensures { IfOk result (λ answered. answered ≡ a.log_answer t (entries log.now)) }
 {
     if is_known(log, t) {
-        Ok(Answered::Log(log_lines(alloc, log, t)?))
+        Ok(Answered::Lines(Heading::Log, log_lines(alloc, log, t)?))
     } else {
         Ok(Answered::Refused(Refusal::E20 { t }))
     }

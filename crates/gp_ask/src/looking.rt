@@ -7,7 +7,6 @@ ghost use Rattle.gp_log.specs.Contents.{entries};
 ghost use Rattle.gp_machine.specs.Entries.{statement_count};
 ghost use Rattle.gp_machine.specs.Questions.{is_known};
 ghost use Rattle.gp_reenact.specs.LookingForms.{system_row};
-ghost use Rattle.gp_ask.specs.Answerable.{IsAnswerable};
 ghost use Rattle.gp_ask.specs.Looked as l;
 
 use crate::changes::is_changed;
@@ -58,18 +57,21 @@ fn may_stop(stmt: &Stmt) -> bool
 }
 
 /// What a statement of a transaction, or one before it, is refused for.
-fn stop_upto(alloc: Global, dump: &Dump, own: &WritingStmt<'_>) -> Result<Option<Refusal>, NoMemory>
-    requires rules { IsAnswerable (dump_view dump.now) }
-    requires own { l.IsWriting (dump_view dump.now).entries own.now }
-    ensures { IfOk result (λ found. found ≡ l.stop_at (dump_view dump.now) own.now.t own.now.k) }
+fn stop_upto(
+    alloc: Global,
+    dump: &Dump,
+    statement: &WritingStmt<'_>,
+) -> Result<Option<Refusal>, NoMemory>
+    requires logged { l.IsWriting (dump_view dump.now).entries statement.now }
+    ensures { IfOk result (λ found. found ≡ l.stop_at (dump_view dump.now) statement.now.t statement.now.k) }
 {
     match looked(
         alloc,
         &dump.log,
         dump.versions.as_slice(),
-        own.t,
-        own.k - 1,
-        own.stmt,
+        statement.t,
+        statement.k - 1,
+        statement.stmt,
     ) {
         Ok(_) => Ok(None),
         Err(Stop::Refused(refusal)) => Ok(Some(refusal)),
@@ -85,7 +87,13 @@ fn stopping(log: &Log, t: u32, k: u32) -> Option<WritingStmt<'_>>
     ensures { l.IsStopping t k (entries log.now) result }
 {
     match writing(log, t, k) {
-        Some(own) => { if may_stop(own.stmt) { Some(own) } else { None } }
+        Some(statement) => {
+            if may_stop(statement.stmt) {
+                Some(statement)
+            } else {
+                None
+            }
+        }
         None => None,
     }
 }
@@ -97,8 +105,8 @@ fn last_stopping(log: &Log, t: u32) -> Option<WritingStmt<'_>>
 {
     let count = log.statement_count(t);
     for before in 0..count {
-        if let Some(own) = stopping(log, t, count - before) {
-            return Some(own);
+        if let Some(statement) = stopping(log, t, count - before) {
+            return Some(statement);
         }
     }
     None
@@ -107,12 +115,11 @@ fn last_stopping(log: &Log, t: u32) -> Option<WritingStmt<'_>>
 /// What a transaction is refused for: E25 or E26 of the first of its statements that passes a limit. One run, up to its last INSERT: no
 /// other statement makes rows.
 pub(crate) fn stop_of(alloc: Global, dump: &Dump, t: u32) -> Result<Option<Refusal>, NoMemory>
-    requires rules { IsAnswerable (dump_view dump.now) }
     requires known { is_known t (dump_view dump.now).entries ≡ true }
     ensures { IfOk result (λ found. found ≡ l.stop_of (dump_view dump.now) t) }
 {
     match last_stopping(&dump.log, t) {
-        Some(own) => stop_upto(alloc, dump, &own),
+        Some(statement) => stop_upto(alloc, dump, &statement),
         None => Ok(None),
     }
 }
@@ -122,22 +129,21 @@ pub(crate) fn stop_of(alloc: Global, dump: &Dump, t: u32) -> Result<Option<Refus
 pub(crate) fn rows_of(
     alloc: Global,
     dump: &Dump,
-    own: &WritingStmt<'_>,
+    statement: &WritingStmt<'_>,
 ) -> Result<Vec<Row>, NoMemory>
-    requires rules { IsAnswerable (dump_view dump.now) }
-    requires own { l.IsWriting (dump_view dump.now).entries own.now }
-    requires runs { l.stop_of (dump_view dump.now) own.now.t ≡ None }
+    requires logged { l.IsWriting (dump_view dump.now).entries statement.now }
+    requires runs { l.stop_of (dump_view dump.now) statement.now.t ≡ None }
     ensures { IfOk result (λ rows. rows.items
-        ≡ map system_row (l.rows_of (dump_view dump.now) own.now.t own.now.k
-        (statement_view own.now.stmt.now))) }
+        ≡ map system_row (l.rows_of (dump_view dump.now) statement.now.t statement.now.k
+        (statement_view statement.now.stmt.now))) }
 {
     match looked(
         alloc,
         &dump.log,
         dump.versions.as_slice(),
-        own.t,
-        own.k - 1,
-        own.stmt,
+        statement.t,
+        statement.k - 1,
+        statement.stmt,
     ) {
         Ok(rows) => Ok(rows),
         Err(Stop::Refused(_)) => unreachable!(),
@@ -157,9 +163,10 @@ fn mark_of(row: &Row) -> bool
 }
 
 /// Whether the statement wrote a row of those by which one looks at it.
-pub(crate) fn is_written(own: &WritingStmt<'_>, id: &RowId, row: &Row) -> bool
-    ensures { result ≡ l.is_written_by own.now.t own.now.k (statement_view own.now.stmt.now)
+pub(crate) fn is_written(statement: &WritingStmt<'_>, id: &RowId, row: &Row) -> bool
+    ensures { result ≡ l.is_written_by statement.now.t statement.now.k (statement_view statement.now.stmt.now)
         id.now row.now }
 {
-    is_changed(own.t, own.k, own.stmt, id) && (!may_stop(own.stmt) || mark_of(row))
+    is_changed(statement.t, statement.k, statement.stmt, id)
+        && (!may_stop(statement.stmt) || mark_of(row))
 }

@@ -13,16 +13,13 @@ ghost use Rattle.gp_dump.specs.Views.{dump_view};
 ghost use Rattle.gp_history.specs.Agreement.{agree, key_of};
 ghost use Rattle.gp_history.specs.Matching.{keys_of, span_key};
 ghost use Rattle.gp_log.specs.Contents as c;
-ghost use Rattle.gp_log.specs.LogFacts.{tables_in};
 ghost use Rattle.gp_reenact.specs.Reenacting.{spans_of};
-ghost use Rattle.gp_check.specs.Valid.{query_is_valid, tables_are_valid};
 ghost use Rattle.gp_machine.specs.Entries.{versions_in};
 ghost use Rattle.gp_machine.specs.Event.{name_at};
 ghost use Rattle.gp_machine.specs.HistorySpans.{as_of};
 ghost use Rattle.gp_versions.specs.Spans.{rows_at};
 ghost use Rattle.gp_ask.specs.Made as s;
 ghost use Rattle.gp_ask.specs.MadeForms.{AreDiffering, HaveSameRows, HaveTables, has_none};
-ghost use Rattle.gp_ask.specs.Answerable.{has_few_items};
 ghost use Rattle.gp_ask.specs.Hypothetical.{replayed_dump};
 ghost use Rattle.gp_ask.specs.Keeping.{AreKept, IsFound};
 ghost use Rattle.gp_ask.specs.Printed.{query_to};
@@ -35,10 +32,11 @@ use crate::hypothetical::{remade_history_answer, remaking_refusal};
 use crate::keeping::KeptAnnotations;
 use crate::laws::changed_histories_answer_their_questions;
 use crate::states::ask_answer;
+use crate::valid::ValidQuery;
 use gp_base::{Cell, NoMemory, Refusal, Row, sort_rows};
 use gp_dump::Dump;
 use gp_log::Log;
-use gp_syntax::{Query, Subject};
+use gp_syntax::Subject;
 use gp_versions::{Span, VersionTable};
 use gp_whatif::replay;
 use std::alloc::Global;
@@ -74,7 +72,7 @@ fn is_same_row(row: &Row, other: &Row) -> bool
 }
 
 /// Whether two lists of rows are equal.
-fn are_equal(rows: &[Row], others: &[Row]) -> bool
+pub(crate) fn are_equal(rows: &[Row], others: &[Row]) -> bool
     ensures { result ≡ is_eq (slice_cmp row_cmp rows.now others.now) }
 {
     if rows.len() != others.len() {
@@ -113,7 +111,7 @@ fn is_same_end(to: Option<u32>, other: Option<u32>) -> bool
 {
     match (to, other) {
         (None, None) => true,
-        (Some(end), Some(own)) => end == own,
+        (Some(first), Some(second)) => first == second,
         _ => false,
     }
 }
@@ -333,7 +331,6 @@ pub fn unmade_refusal(
     is_made: &mut Option<bool>,
 ) -> Result<Option<Refusal>, NoMemory>
     requires rules { IsDump (dump_view dump.now) }
-    requires valid { tables_are_valid (tables_in (dump_view dump.now).entries) ≡ true }
     requires kept { IsFound dump.now is_made.old }
     ensures kept { IsFound dump.now is_made.new }
     ensures refusal { IfOk result (λ refusal. refusal ≡ s.unmade_refusal (dump_view dump.now)) }
@@ -363,24 +360,21 @@ pub fn made_answer(
     alloc: Global,
     dump: &Dump,
     subject: &Subject,
-    query: &Query,
+    query: ValidQuery<'_>,
     kept: &mut KeptAnnotations,
 ) -> Result<Answered, NoMemory>
     requires rules { IsDump (dump_view dump.now) }
-    requires valid { tables_are_valid (tables_in (dump_view dump.now).entries) ≡ true }
-    requires query { query_is_valid (query_view query.now) ≡ true }
-    requires few { has_few_items (query_view query.now) ≡ true }
     requires made { s.unmade_refusal (dump_view dump.now) ≡ None }
     requires kept { AreKept dump.now kept.old }
     ensures kept { AreKept dump.now kept.new }
     ensures answered { IfOk result (λ answered. answered
         ≡ query_to (replayed_dump (dump_view dump.now).entries) (subject_view subject.now)
-        (query_view query.now)) }
+        (query_view query.entry.read.now)) }
 {
     // The order of the row versions changes no answer. The call does nothing.
     changed_histories_answer_their_questions();
     if was_found(kept.is_made) {
-        return ask_answer(alloc, dump, subject, query, kept);
+        return ask_answer(alloc, dump, subject, query, &mut kept.own);
     }
     remade_history_answer(alloc, dump, subject, query)
 }

@@ -28,12 +28,12 @@ fn is_by_identity(stmt: &Stmt, table: u32) -> bool
     ensures { result ≡ f.is_by_identity table (statement_view stmt.now) }
 {
     match stmt {
-        Stmt::InsertSelect { table: own, .. } => table != *own,
+        Stmt::InsertSelect { table: target, .. } => table != *target,
         _ => true,
     }
 }
 
-/// The same of the statement of a number, if there is one.
+/// Whether what the statement of a number leaves of a row is by the rows of this identity alone; true if there is none.
 fn is_found_by_identity(log: &Log, t: u32, k: u32, table: u32) -> bool
     ensures { result ≡ f.is_found_by_identity table (statement_at t k (entries log.now)) }
 {
@@ -76,7 +76,7 @@ fn push_asked(
     spans: &mut Vec<Span>,
 ) -> Result<(), NoMemory>
     ensures { OnOk result (spans.new.items ≡ spans.old.items
-        ++ filter (λ (own : s.Span). is_some (get identity_cmp asked.now own.id)) (span.now ∷ [])) }
+        ++ filter (λ (one : s.Span). is_some (get identity_cmp asked.now one.id)) (span.now ∷ [])) }
 {
     if asked.contains_key(&span.id) {
         spans.push(copy_span(span)?)?;
@@ -90,14 +90,14 @@ fn asked_spans(
     asked: &BTreeMap<RowId, bool>,
     spans: &[Span],
 ) -> Result<Vec<Span>, NoMemory>
-    ensures { IfOk result (λ own. own.items
+    ensures { IfOk result (λ found. found.items
         ≡ filter (λ (span : s.Span). is_some (get identity_cmp asked.now span.id)) spans.now) }
 {
-    let mut own = Vec::new(alloc);
+    let mut found = Vec::new(alloc);
     for span in spans {
-        push_asked(asked, span, &mut own)?;
+        push_asked(asked, span, &mut found)?;
     }
-    Ok(own)
+    Ok(found)
 }
 
 /// The row versions of a table with identities that are asked for.
@@ -107,7 +107,7 @@ fn asked_table(
     table: u32,
     asked: &BTreeMap<RowId, bool>,
 ) -> Result<VersionTable, NoMemory>
-    ensures { IfOk result (λ own. own.spans
+    ensures { IfOk result (λ found. found.spans
         ≡ filter (λ (span : s.Span). is_some (get identity_cmp asked.now span.id))
         (spans_of versions.now table)) }
 {
@@ -127,13 +127,13 @@ pub(crate) fn narrowed(
     table: u32,
     asked: &BTreeMap<RowId, bool>,
 ) -> Result<Vec<VersionTable>, NoMemory>
-    ensures { IfOk result (λ own. spans_of own.items ≡ f.narrowed (spans_of versions.now) table
+    ensures { IfOk result (λ tables. spans_of tables.items ≡ f.narrowed (spans_of versions.now) table
         (λ id. is_some (get identity_cmp asked.now id))) }
 {
-    let mut own = Vec::new(alloc);
+    let mut tables = Vec::new(alloc);
     for _ in 0..table {
-        own.push(VersionTable::new(alloc))?;
+        tables.push(VersionTable::new(alloc))?;
     }
-    own.push(asked_table(alloc, versions, table, asked)?)?;
-    Ok(own)
+    tables.push(asked_table(alloc, versions, table, asked)?)?;
+    Ok(tables)
 }

@@ -3,15 +3,13 @@
 ghost use Rattle.std.specs.Prelude.{◌≡◌, [], None, false, true, IfOk};
 ghost use Rattle.gp_algebra.specs.Fitting.{select_fits};
 ghost use Rattle.gp_algebra.specs.Views.{select_view};
-ghost use Rattle.gp_check.specs.Valid.{query_is_valid, tables_are_valid};
+ghost use Rattle.gp_check.specs.Valid.{tables_are_valid};
 ghost use Rattle.gp_dump.specs.Views.{dump_view};
 ghost use Rattle.gp_explain.specs.Explained.{Explains};
 ghost use Rattle.gp_grammar.specs.Syntax as y;
 ghost use Rattle.gp_log.specs.Contents.{HasPoint, StatementsFit, entries, tables};
-ghost use Rattle.gp_log.specs.LogFacts.{tables_in};
 ghost use Rattle.gp_syntax.specs.Views.{query_view, point_view};
 ghost use Rattle.gp_ask.specs.declared.answered.Answered.TheVariants.{Program};
-ghost use Rattle.gp_ask.specs.Answerable.{IsAnswerable};
 ghost use Rattle.gp_ask.specs.Computed.{computed_answer};
 ghost use Rattle.gp_ask.specs.Printed.{ask_to};
 ghost use Rattle.gp_ask.specs.AskingForms.{dump_program};
@@ -23,12 +21,13 @@ ghost use Rattle.gp_ask.specs.Seeing.{seen_refusal};
 use crate::answered::Answered;
 use crate::queries::asked;
 use crate::seeing::seen;
+use crate::valid::ValidQuery;
 use gp_algebra::Select;
 use gp_base::{NoMemory, Stop};
 use gp_dump::Dump;
 use gp_explain::{explain, explain_saw, explained_lines};
 use gp_log::Log;
-use gp_syntax::{Point, Query};
+use gp_syntax::Point;
 use std::alloc::Global;
 
 /// The lines of the program of a checked query over a state that the log has.
@@ -63,18 +62,18 @@ pub fn program_answer(
     log: &Log,
     prov: bool,
     state: Point,
-    query: &Query,
+    query: ValidQuery<'_>,
 ) -> Result<Answered, NoMemory>
     requires statements { StatementsFit log.now }
     requires valid { tables_are_valid (tables log.now) ≡ true }
-    requires query { query_is_valid (query_view query.now) ≡ true }
     ensures answered { IfOk result
         (λ answered. answered ≡ ask_to (dump_in (entries log.now) []) (y.explain prov)
-        (point_view state) (query_view query.now)) }
+        (point_view state) (query_view query.entry.read.now)) }
     ensures explained { IfOk result (λ answered. ExplainsQuestion (entries log.now)
-        (y.ask (y.of_state (y.explain prov) (point_view state)) (query_view query.now))) }
+        (y.ask (y.of_state (y.explain prov) (point_view state))
+        (query_view query.entry.read.now))) }
 {
-    match asked(alloc, log, state, query) {
+    match asked(alloc, log, state, query.read) {
         Ok(select) => selected_program(alloc, log, prov, state, &select),
         Err(Stop::Refused(refusal)) => Ok(Answered::Refused(refusal)),
         Err(Stop::NoMemory) => Err(NoMemory),
@@ -112,17 +111,14 @@ pub fn saw_program_answer(
     dump: &Dump,
     t: u64,
     k: u64,
-    query: &Query,
+    query: ValidQuery<'_>,
 ) -> Result<Answered, NoMemory>
-    requires rules { IsAnswerable (dump_view dump.now) }
-    requires valid { tables_are_valid (tables_in (dump_view dump.now).entries) ≡ true }
-    requires query { query_is_valid (query_view query.now) ≡ true }
     ensures answered { IfOk result (λ answered. answered ≡ computed_answer (dump_view dump.now)
-        (y.explain_saw t k (query_view query.now))) }
+        (y.explain_saw t k (query_view query.entry.read.now))) }
     ensures explained { IfOk result (λ answered. ExplainsQuestion (dump_view dump.now).entries
-        (y.explain_saw t k (query_view query.now))) }
+        (y.explain_saw t k (query_view query.entry.read.now))) }
 {
-    match seen(alloc, &dump.log, t, k, query) {
+    match seen(alloc, &dump.log, t, k, query.read) {
         Ok(select) => selected_saw_program(alloc, &dump.log, t, k, &select),
         Err(Stop::Refused(refusal)) => Ok(Answered::Refused(refusal)),
         Err(Stop::NoMemory) => Err(NoMemory),

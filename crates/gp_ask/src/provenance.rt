@@ -4,7 +4,6 @@ ghost use Rattle.std.specs.Prelude.{◌≡◌, true, IfOk};
 ghost use Rattle.gp_algebra.specs.Fitting.{select_fits};
 ghost use Rattle.gp_algebra.specs.Views.{select_view};
 ghost use Rattle.gp_base.specs.Annotated.{monomials};
-ghost use Rattle.gp_check.specs.Valid.{query_is_valid, tables_are_valid};
 ghost use Rattle.gp_dump.specs.Views.{dump_view};
 ghost use Rattle.gp_grammar.specs.Syntax as y;
 ghost use Rattle.gp_history.specs.Agreement.{agree};
@@ -13,7 +12,6 @@ ghost use Rattle.gp_log.specs.LogFacts.{tables_in};
 ghost use Rattle.gp_log.specs.Parameters.{parameters};
 ghost use Rattle.gp_machine.specs.Questions.{annotated_answer};
 ghost use Rattle.gp_syntax.specs.Views.{query_view, point_view};
-ghost use Rattle.gp_ask.specs.Answerable.{IsAnswerable};
 ghost use Rattle.gp_ask.specs.Computed.{computed_answer};
 ghost use Rattle.gp_ask.specs.Asking.{table_spans};
 ghost use Rattle.gp_ask.specs.AskingForms.{dump_provenance};
@@ -21,12 +19,13 @@ ghost use Rattle.gp_ask.specs.Keeping.{MayBeKeptOf};
 
 use crate::answered::Answered;
 use crate::queries::asked;
+use crate::valid::ValidQuery;
 use gp_algebra::Select;
 use gp_base::{Monomial, NoMemory, Row, Stop};
 use gp_dump::Dump;
 use gp_history::{Kept, provenance_from};
 use gp_semiring::list;
-use gp_syntax::{Point, Query};
+use gp_syntax::Point;
 use std::alloc::Global;
 
 /// The rows of a checked query with their monomials, in no particular order, from the monomials that an earlier question left, or the
@@ -38,7 +37,6 @@ fn rows_with_monomials(
     select: &Select,
     kept: &mut Option<Kept<Monomial>>,
 ) -> Result<Vec<Row>, Stop>
-    requires rules { IsAnswerable (dump_view dump.now) }
     requires fits { select_fits (tables_in (dump_view dump.now).entries) (select_view select.now)
         ≡ true }
     requires kept { MayBeKeptOf monomials dump.now kept.old }
@@ -66,7 +64,6 @@ fn selected_provenance(
     select: &Select,
     kept: &mut Option<Kept<Monomial>>,
 ) -> Result<Answered, NoMemory>
-    requires rules { IsAnswerable (dump_view dump.now) }
     requires fits { select_fits (tables_in (dump_view dump.now).entries) (select_view select.now)
         ≡ true }
     requires kept { MayBeKeptOf monomials dump.now kept.old }
@@ -87,18 +84,15 @@ pub fn provenance_answer(
     alloc: Global,
     dump: &Dump,
     state: Point,
-    query: &Query,
+    query: ValidQuery<'_>,
     kept: &mut Option<Kept<Monomial>>,
 ) -> Result<Answered, NoMemory>
-    requires rules { IsAnswerable (dump_view dump.now) }
-    requires valid { tables_are_valid (tables_in (dump_view dump.now).entries) ≡ true }
-    requires query { query_is_valid (query_view query.now) ≡ true }
     requires kept { MayBeKeptOf monomials dump.now kept.old }
     ensures kept { MayBeKeptOf monomials dump.now kept.new }
     ensures answered { IfOk result (λ answered. answered ≡ computed_answer (dump_view dump.now)
-        (y.ask (y.of_state y.provenance (point_view state)) (query_view query.now))) }
+        (y.ask (y.of_state y.provenance (point_view state)) (query_view query.entry.read.now))) }
 {
-    match asked(alloc, &dump.log, state, query) {
+    match asked(alloc, &dump.log, state, query.read) {
         Ok(select) => selected_provenance(alloc, dump, state, &select, kept),
         Err(Stop::Refused(refusal)) => Ok(Answered::Refused(refusal)),
         Err(Stop::NoMemory) => Err(NoMemory),

@@ -16,12 +16,12 @@ ghost use Rattle.gp_reenact.specs.Reenacting.{transaction_at};
 ghost use Rattle.gp_reenact.specs.Programs.{merged_at};
 ghost use Rattle.gp_dump.specs.Views.{dump_view};
 ghost use Rattle.gp_ask.specs.declared.answered.Answered.TheVariants.{Rows};
-ghost use Rattle.gp_ask.specs.Answerable.{IsAnswerable};
 ghost use Rattle.gp_ask.specs.Asking as a;
 ghost use Rattle.gp_ask.specs.Computed.{computed_answer};
 ghost use Rattle.gp_ask.specs.Backends.{AnswersBy, AnswersChecked, IsAnswered, past_of};
 
 use crate::answered::Answered;
+use crate::valid::ValidQuery;
 use gp_algebra::Select;
 use gp_base::{NoMemory, Row, Sequence, Stop, sort_rows};
 use gp_check::check_query;
@@ -66,7 +66,6 @@ fn selected_answer<B: Backend>(
     select: &Select,
     backend: &B,
 ) -> Result<Answered, NoMemory>
-    requires rules { IsAnswerable (dump_view dump.now) }
     requires known { m.log_refusal (dump_view dump.now).entries (point_view state) ≡ None }
     requires fits { select_fits (tables_in (dump_view dump.now).entries) (select_view select.now)
         ≡ true }
@@ -94,19 +93,17 @@ fn state_answer<B: Backend>(
     alloc: Global,
     dump: &Dump,
     state: Point,
-    query: &Query,
+    query: ValidQuery<'_>,
     backend: &B,
 ) -> Result<Answered, NoMemory>
-    requires rules { IsAnswerable (dump_view dump.now) }
     requires known { m.log_refusal (dump_view dump.now).entries (point_view state) ≡ None }
-    requires valid { tables_are_valid (tables_in (dump_view dump.now).entries) ≡ true }
-    requires query { query_is_valid (query_view query.now) ≡ true }
     ensures { IfOk result (λ answered. AnswersChecked (B.gives backend.now)
         (tables_in (dump_view dump.now).entries) (transaction_at (point_view state))
         (merged_at false (dump_view dump.now).entries (point_view state)) (past_of (dump_view dump.now))
-        (checked_query (tables_in (dump_view dump.now).entries) (query_view query.now)) answered) }
+        (checked_query (tables_in (dump_view dump.now).entries)
+        (query_view query.entry.read.now)) answered) }
 {
-    match check_query(alloc, dump.log.catalog(), query) {
+    match check_query(alloc, dump.log.catalog(), query.read) {
         Ok(select) => selected_answer(alloc, dump, state, &select, backend),
         Err(Stop::Refused(refusal)) => Ok(Answered::Refused(refusal)),
         Err(Stop::NoMemory) => Err(NoMemory),
@@ -118,14 +115,11 @@ pub fn query_answer_by<B: Backend>(
     alloc: Global,
     dump: &Dump,
     state: Point,
-    query: &Query,
+    query: ValidQuery<'_>,
     backend: &B,
 ) -> Result<Answered, NoMemory>
-    requires rules { IsAnswerable (dump_view dump.now) }
-    requires valid { tables_are_valid (tables_in (dump_view dump.now).entries) ≡ true }
-    requires query { query_is_valid (query_view query.now) ≡ true }
     ensures { IfOk result (λ answered. AnswersBy (B.gives backend.now) (dump_view dump.now)
-        (y.ask (y.of_state y.rows (point_view state)) (query_view query.now)) answered) }
+        (y.ask (y.of_state y.rows (point_view state)) (query_view query.entry.read.now)) answered) }
 {
     match log_refusal(&dump.log, state) {
         None => state_answer(alloc, dump, state, query, backend),
@@ -138,14 +132,11 @@ pub fn query_answer(
     alloc: Global,
     dump: &Dump,
     state: Point,
-    query: &Query,
+    query: ValidQuery<'_>,
 ) -> Result<Answered, NoMemory>
-    requires rules { IsAnswerable (dump_view dump.now) }
-    requires valid { tables_are_valid (tables_in (dump_view dump.now).entries) ≡ true }
-    requires query { query_is_valid (query_view query.now) ≡ true }
     ensures { IfOk result (λ answered. answered
         ≡ computed_answer (dump_view dump.now)
-        (y.ask (y.of_state y.rows (point_view state)) (query_view query.now))) }
+        (y.ask (y.of_state y.rows (point_view state)) (query_view query.entry.read.now))) }
 {
     query_answer_by(alloc, dump, state, query, &Plain)
 }

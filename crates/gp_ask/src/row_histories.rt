@@ -7,7 +7,7 @@ ghost use Rattle.std.specs.Option.{is_some, option_map};
 ghost use Rattle.gp_base.specs.Identities.{Identity, identity_cmp, same_identity};
 ghost use Rattle.gp_algebra.specs.Fitting.{select_fits};
 ghost use Rattle.gp_algebra.specs.Views.{branch_view, select_view, statement_view};
-ghost use Rattle.gp_check.specs.Valid.{condition_is_valid, tables_are_valid};
+ghost use Rattle.gp_check.specs.Valid.{condition_is_valid};
 ghost use Rattle.gp_compose.specs.Seen.{is_changed_by};
 ghost use Rattle.gp_dump.specs.Views.{dump_view};
 ghost use Rattle.gp_log.specs.LogFacts.{tables_in};
@@ -16,7 +16,6 @@ ghost use Rattle.gp_machine.specs.Questions.{given, is_known};
 ghost use Rattle.gp_reenact.specs.LookingForms.{Looks, system_row};
 ghost use Rattle.gp_reenact.specs.Reenacting.{spans_of};
 ghost use Rattle.gp_syntax.specs.Views.{condition_view, query_view};
-ghost use Rattle.gp_ask.specs.Answerable.{IsAnswerable};
 ghost use Rattle.gp_ask.specs.Asking.{table_spans};
 ghost use Rattle.gp_ask.specs.ChangeForms.{after_of, before_of};
 ghost use Rattle.gp_ask.specs.HistoryForms as f;
@@ -25,12 +24,12 @@ ghost use Rattle.gp_ask.specs.Looked as l;
 ghost use Rattle.gp_ask.specs.RowHistories as s;
 ghost use Rattle.gp_ask.specs.RowLines.{few, keyed_from};
 
-use crate::answered::Answered;
+use crate::answered::{Answered, Heading};
 use crate::changes::{identity_of, is_changed, side_text};
 use crate::copying::copy_term;
 use crate::looking::{WritingStmt, rows_of, stop_of, writing};
 use crate::narrowing::{are_by_identity, narrowed};
-use crate::row_lines::{push_line, sorted_texts};
+use crate::row_lines::{listed, push_line};
 use crate::row_versions::spans_of;
 use gp_algebra::{Branch, Select, Stmt};
 use gp_base::{
@@ -165,8 +164,8 @@ fn history_text(
           (option_map (λ row. row.now) before.entry, option_map (λ row. row.now) after.entry),
         )) }
 {
-    let mut own = Vec::new(alloc);
-    write_id(alloc, id, &mut own)?;
+    let mut identity = Vec::new(alloc);
+    write_id(alloc, id, &mut identity)?;
     let version = changing.version.to_string(alloc)?;
     let t = changing.own.t.to_string(alloc)?;
     let k = changing.own.k.to_string(alloc)?;
@@ -175,7 +174,7 @@ fn history_text(
     text_of_pieces(
         alloc,
         &[
-            &own,
+            &identity,
             b" at ",
             version.as_bytes(),
             b" by ",
@@ -192,15 +191,15 @@ fn history_text(
 
 /// The cells of a row that has its identity and its mark behind them.
 fn cells_of(alloc: Global, row: &Row) -> Result<Row, NoMemory>
-    ensures { IfOk result (λ own. own ≡ cells_of row.now) }
+    ensures { IfOk result (λ copy. copy ≡ cells_of row.now) }
 {
     let cells = row.cells();
     let count = cells.len().saturating_sub(2);
-    let mut own = Row::with_capacity(alloc, count)?;
+    let mut copy = Row::with_capacity(alloc, count)?;
     for i in 0..count {
-        own.push(cells[i].clone()?)?;
+        copy.push(cells[i].clone()?)?;
     }
-    Ok(own)
+    Ok(copy)
 }
 
 /// The line of a row that a statement changed, of its cells by which one looks at it.
@@ -328,10 +327,9 @@ fn told_rows(
     narrow: &[VersionTable],
     changing: &Changing<'_>,
 ) -> Result<Vec<Row>, NoMemory>
-    requires rules { IsAnswerable (dump_view dump.now) }
     requires narrow { spans_of narrow.now ≡ f.narrowed (table_spans (dump_view dump.now).tables)
         changing.now.own.table (λ id. is_some (get identity_cmp changing.now.asked.now id)) }
-    requires own { l.IsWriting (dump_view dump.now).entries changing.now.own }
+    requires logged { l.IsWriting (dump_view dump.now).entries changing.now.own }
     requires runs { l.stop_of (dump_view dump.now) changing.now.own.t ≡ None }
     ensures { IfOk result (λ rows. f.rows_changes
         (λ id. is_some (get identity_cmp changing.now.asked.now id)) changing.now.version
@@ -343,13 +341,20 @@ fn told_rows(
         (map system_row (l.rows_of (dump_view dump.now) changing.now.own.t changing.now.own.k
         (statement_view changing.now.own.stmt.now)))) }
 {
-    let own = &changing.own;
-    if !are_by_identity(&dump.log, own.t, own.k, own.table) {
-        return rows_of(alloc, dump, own);
+    let statement = &changing.own;
+    if !are_by_identity(&dump.log, statement.t, statement.k, statement.table) {
+        return rows_of(alloc, dump, statement);
     }
-    match looked(alloc, &dump.log, narrow, own.t, own.k - 1, own.stmt) {
+    match looked(
+        alloc,
+        &dump.log,
+        narrow,
+        statement.t,
+        statement.k - 1,
+        statement.stmt,
+    ) {
         Ok(rows) => Ok(rows),
-        Err(Stop::Refused(_)) => rows_of(alloc, dump, own),
+        Err(Stop::Refused(_)) => rows_of(alloc, dump, statement),
         Err(Stop::NoMemory) => Err(NoMemory),
     }
 }
@@ -362,10 +367,9 @@ fn push_writing(
     changing: &Changing<'_>,
     lines: &mut Vec<Row>,
 ) -> Result<(), NoMemory>
-    requires rules { IsAnswerable (dump_view dump.now) }
     requires narrow { spans_of narrow.now ≡ f.narrowed (table_spans (dump_view dump.now).tables)
         changing.now.own.table (λ id. is_some (get identity_cmp changing.now.asked.now id)) }
-    requires own { l.IsWriting (dump_view dump.now).entries changing.now.own }
+    requires logged { l.IsWriting (dump_view dump.now).entries changing.now.own }
     requires runs { l.stop_of (dump_view dump.now) changing.now.own.t ≡ None }
     ensures { OnOk result (f.Pushes (f.statement_changes (dump_view dump.now) changing.now.own.table
         (λ id. is_some (get identity_cmp changing.now.asked.now id)) changing.now.version
@@ -393,24 +397,23 @@ fn push_own(
     dump: &Dump,
     rows: &Rows<'_>,
     version: u32,
-    own: WritingStmt<'_>,
+    statement: WritingStmt<'_>,
     lines: &mut Vec<Row>,
 ) -> Result<(), NoMemory>
-    requires rules { IsAnswerable (dump_view dump.now) }
     requires narrow { spans_of rows.now.narrow.now ≡ f.narrowed (table_spans (dump_view dump.now).tables)
         rows.now.table (λ id. is_some (get identity_cmp rows.now.asked.now id)) }
-    requires own { l.IsWriting (dump_view dump.now).entries own }
-    requires runs { l.stop_of (dump_view dump.now) own.t ≡ None }
+    requires logged { l.IsWriting (dump_view dump.now).entries statement }
+    requires runs { l.stop_of (dump_view dump.now) statement.t ≡ None }
     ensures { OnOk result (f.Pushes (f.statement_changes (dump_view dump.now) rows.now.table
-        (λ id. is_some (get identity_cmp rows.now.asked.now id)) version own.entry.t
-        own.entry.k (Some (statement_view own.entry.stmt.now))) lines.old.items lines.new.items) }
+        (λ id. is_some (get identity_cmp rows.now.asked.now id)) version statement.entry.t
+        statement.entry.k (Some (statement_view statement.entry.stmt.now))) lines.old.items lines.new.items) }
 {
-    if own.table != rows.table {
+    if statement.table != rows.table {
         return Ok(());
     }
     let changing = Changing {
         version,
-        own,
+        own: statement,
         asked: rows.asked,
     };
     push_writing(alloc, dump, rows.narrow, &changing, lines)
@@ -427,7 +430,6 @@ fn push_statement(
     k: u32,
     lines: &mut Vec<Row>,
 ) -> Result<(), NoMemory>
-    requires rules { IsAnswerable (dump_view dump.now) }
     requires narrow { spans_of rows.now.narrow.now ≡ f.narrowed (table_spans (dump_view dump.now).tables)
         rows.now.table (λ id. is_some (get identity_cmp rows.now.asked.now id)) }
     requires known { is_known t (dump_view dump.now).entries ≡ true }
@@ -439,7 +441,7 @@ fn push_statement(
         (m.statement_at t k (dump_view dump.now).entries)) lines.old.items lines.new.items) }
 {
     match writing(&dump.log, t, k) {
-        Some(own) => push_own(alloc, dump, rows, version, own, lines),
+        Some(statement) => push_own(alloc, dump, rows, version, statement, lines),
         None => Ok(()),
     }
 }
@@ -453,7 +455,6 @@ fn push_transaction(
     t: u32,
     lines: &mut Vec<Row>,
 ) -> Result<(), NoMemory>
-    requires rules { IsAnswerable (dump_view dump.now) }
     requires narrow { spans_of rows.now.narrow.now ≡ f.narrowed (table_spans (dump_view dump.now).tables)
         rows.now.table (λ id. is_some (get identity_cmp rows.now.asked.now id)) }
     requires known { is_known t (dump_view dump.now).entries ≡ true }
@@ -470,7 +471,6 @@ fn push_transaction(
 
 /// The lines of all transactions that made versions, in the order of these, or the first stop of one of them.
 fn history_lines(alloc: Global, dump: &Dump, rows: &Rows<'_>) -> Result<Vec<Row>, Stop>
-    requires rules { IsAnswerable (dump_view dump.now) }
     requires narrow { spans_of rows.now.narrow.now ≡ f.narrowed (table_spans (dump_view dump.now).tables)
         rows.now.table (λ id. is_some (get identity_cmp rows.now.asked.now id)) }
     ensures { Looks (λ lines. lines.items) result
@@ -491,16 +491,6 @@ fn history_lines(alloc: Global, dump: &Dump, rows: &Rows<'_>) -> Result<Vec<Row>
     Ok(lines)
 }
 
-/// The lines, by identity, unless there are too many.
-fn listed(alloc: Global, lines: Vec<Row>) -> Result<Answered, NoMemory>
-    ensures { IfOk result (λ answered. answered ≡ f.listed lines.items) }
-{
-    if lines.len() > MAX_ANSWER_ROWS {
-        return Ok(Answered::Refused(Refusal::E27));
-    }
-    Ok(Answered::History(sorted_texts(alloc, lines)?))
-}
-
 /// The history of the rows of a table that a checked query asks for.
 fn selected_history(
     alloc: Global,
@@ -508,7 +498,6 @@ fn selected_history(
     table: u32,
     select: &Select,
 ) -> Result<Answered, NoMemory>
-    requires rules { IsAnswerable (dump_view dump.now) }
     requires fits { select_fits (tables_in (dump_view dump.now).entries) (select_view select.now)
         ≡ true }
     ensures { IfOk result (λ answered. answered
@@ -522,7 +511,7 @@ fn selected_history(
         narrow: &narrow,
     };
     match history_lines(alloc, dump, &rows) {
-        Ok(lines) => listed(alloc, lines),
+        Ok(lines) => listed(alloc, Heading::History, lines),
         Err(Stop::Refused(refusal)) => Ok(Answered::Refused(refusal)),
         Err(Stop::NoMemory) => Err(NoMemory),
     }
@@ -542,8 +531,6 @@ pub fn history_answer(
     table: &Name,
     cond: &Option<Term>,
 ) -> Result<Answered, NoMemory>
-    requires rules { IsAnswerable (dump_view dump.now) }
-    requires valid { tables_are_valid (tables_in (dump_view dump.now).entries) ≡ true }
     requires cond { condition_is_valid (condition_view cond.now) ≡ true }
     ensures { IfOk result (λ answered. answered
         ≡ f.history_to (dump_view dump.now) table.now (condition_view cond.now)) }

@@ -5,8 +5,9 @@ ghost use Rattle.std.specs.Option.{option_map, option_to_list};
 ghost use Rattle.gp_base.specs.Order.{row_cmp, sorted_by};
 ghost use Rattle.gp_ask.specs.RowLines as l;
 
+use crate::answered::{Answered, Heading};
 use crate::changes::numbered;
-use gp_base::{Cell, NoMemory, Row, RowId, Sequence, Text, sort_rows};
+use gp_base::{Cell, MAX_ANSWER_ROWS, NoMemory, Refusal, Row, RowId, Sequence, Text, sort_rows};
 use std::alloc::Global;
 
 /// Adds a line of a row.
@@ -52,7 +53,7 @@ fn push_text(row: &Row, texts: &mut Sequence<Text>) -> Result<(), NoMemory>
 }
 
 /// The texts that rows end with, in the order of the rows.
-pub fn sorted_texts(alloc: Global, rows: Vec<Row>) -> Result<Sequence<Text>, NoMemory>
+fn sorted_texts(alloc: Global, rows: Vec<Row>) -> Result<Sequence<Text>, NoMemory>
     ensures { IfOk result (λ texts. texts ≡ l.row_texts (sorted_by row_cmp rows.items)) }
 {
     let mut rows = rows;
@@ -64,10 +65,20 @@ pub fn sorted_texts(alloc: Global, rows: Vec<Row>) -> Result<Sequence<Text>, NoM
     Ok(texts)
 }
 
+/// The answer of the texts that rows end with, in the order of the rows, unless there are too many.
+pub fn listed(alloc: Global, heading: Heading, rows: Vec<Row>) -> Result<Answered, NoMemory>
+    ensures { IfOk result (λ answered. answered ≡ l.listed heading rows.items) }
+{
+    if rows.len() > MAX_ANSWER_ROWS {
+        return Ok(Answered::Refused(Refusal::E27));
+    }
+    Ok(Answered::Lines(heading, sorted_texts(alloc, rows)?))
+}
+
 /// Whether two cells are there, and are one.
 fn is_same_cell(cell: Option<&Cell>, other: Option<&Cell>) -> bool
-    ensures { result ≡ l.is_same_cell (option_map (λ own. own.now) cell.entry)
-        (option_map (λ own. own.now) other.entry) }
+    ensures { result ≡ l.is_same_cell (option_map (λ found. found.now) cell.entry)
+        (option_map (λ found. found.now) other.entry) }
 {
     match cell {
         Some(cell) => match other {
@@ -89,7 +100,7 @@ fn same_key(row: &Row, other: &Row) -> bool
 
 /// Whether a line is of the same row as the last one.
 fn is_again(last: Option<&Row>, row: &Row) -> bool
-    ensures { result ≡ l.is_again (option_map (λ own. own.now) last.entry) row.now }
+    ensures { result ≡ l.is_again (option_map (λ line. line.now) last.entry) row.now }
 {
     match last {
         Some(last) => same_key(last, row),
@@ -100,7 +111,7 @@ fn is_again(last: Option<&Row>, row: &Row) -> bool
 /// Adds the text of a line, unless it is of the same row as the last one.
 fn push_first(last: Option<&Row>, row: &Row, texts: &mut Sequence<Text>) -> Result<(), NoMemory>
     ensures { OnOk result (texts.new
-        ≡ texts.old ++ l.first_text (option_map (λ own. own.now) last.entry) row.now) }
+        ≡ texts.old ++ l.first_text (option_map (λ line. line.now) last.entry) row.now) }
 {
     if is_again(last, row) {
         return Ok(());

@@ -8,7 +8,7 @@ ghost use Rattle.gp_dumpline.specs.Texts.{span_text};
 ghost use Rattle.gp_ask.specs.Computed.{computed_answer};
 ghost use Rattle.gp_ask.specs.Asking.{table_spans};
 
-use crate::answered::Answered;
+use crate::answered::{Answered, Heading};
 use gp_base::{Name, NoMemory, Refusal, Sequence, Text};
 use gp_dump::Dump;
 use gp_dumpline::write_span;
@@ -48,10 +48,13 @@ pub(crate) fn spans_of(dump: &Dump, table: u32) -> &[Span]
 /// The row versions of a table, in the order of the dump. E04 if no table has the name.
 pub fn versions_answer(alloc: Global, dump: &Dump, name: &Name) -> Result<Answered, NoMemory>
     ensures { IfOk result (λ answered. answered
-        ≡ computed_answer (dump_view dump.now) (y.versions name.now)) }
+        ≡ computed_answer (dump_view dump.now) (y.bare (y.versions name.now))) }
 {
     match dump.log.catalog().find(name) {
-        Some(table) => Ok(Answered::Versions(span_lines(alloc, spans_of(dump, table))?)),
+        Some(table) => Ok(Answered::Lines(
+            Heading::Versions,
+            span_lines(alloc, spans_of(dump, table))?,
+        )),
         None => Ok(Answered::Refused(Refusal::E04 {
             table: name.clone()?,
         })),

@@ -109,7 +109,7 @@ fn is_same_part(part: Option<u32>, other: Option<u32>) -> bool
 {
     match (part, other) {
         (None, None) => true,
-        (Some(number), Some(own)) => number == own,
+        (Some(first), Some(second)) => first == second,
         _ => false,
     }
 }
@@ -120,7 +120,7 @@ fn is_same_number(number: Option<u64>, other: Option<u64>) -> bool
 {
     match (number, other) {
         (None, None) => true,
-        (Some(number), Some(own)) => number == own,
+        (Some(first), Some(second)) => first == second,
         _ => false,
     }
 }

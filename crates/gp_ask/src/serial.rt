@@ -12,7 +12,7 @@ ghost use Rattle.gp_serial.specs.SerialViews.{serial_view, step_view};
 ghost use Rattle.gp_ask.specs.SerialAnswers as s;
 ghost use Rattle.gp_ask.specs.SerialStops.{IsUnserialized};
 
-use crate::answered::Answered;
+use crate::answered::{Answered, Heading};
 use gp_base::{NoMemory, Sequence, Text, text_of_pieces, write_id};
 use gp_dump::Dump;
 use gp_log::Log;
@@ -180,9 +180,12 @@ fn serial_lines(alloc: Global, log: &Log, found: &Serial<'_>) -> Result<Answered
         ≡ s.answered_serial (tables log.now) (entries log.now) (serial_view found.now)) }
 {
     match found {
-        Serial::Order(order) => Ok(Answered::Serial(order_lines(alloc, order)?)),
-        Serial::Cycle(steps) => Ok(Answered::Cycle(cycle_lines(alloc, log, steps)?)),
-        Serial::Undecided => Ok(Answered::Undecided),
+        Serial::Order(order) => Ok(Answered::Lines(Heading::Serial, order_lines(alloc, order)?)),
+        Serial::Cycle(steps) => Ok(Answered::Lines(
+            Heading::Cycle,
+            cycle_lines(alloc, log, steps)?,
+        )),
+        Serial::Undecided => Ok(Answered::Lines(Heading::Undecided, Sequence::new(alloc))),
     }
 }
 

@@ -1,27 +1,25 @@
 //! Queries, by what they are asked of.
 
-ghost use Rattle.std.specs.Prelude.{◌≡◌, true, IfOk};
+ghost use Rattle.std.specs.Prelude.{◌≡◌, IfOk};
 ghost use Rattle.gp_grammar.specs.Syntax as y;
 ghost use Rattle.gp_syntax.specs.Views.{how_view, query_view, point_view, subject_view};
-ghost use Rattle.gp_check.specs.Valid.{query_is_valid, tables_are_valid};
-ghost use Rattle.gp_log.specs.LogFacts.{tables_in};
 ghost use Rattle.gp_dump.specs.Views.{dump_view};
-ghost use Rattle.gp_ask.specs.Answerable.{IsAnswerable, has_few_items};
 ghost use Rattle.gp_ask.specs.Computed.{computed_answer};
 ghost use Rattle.gp_ask.specs.ExplainedTexts.{ExplainsQuestion};
-ghost use Rattle.gp_ask.specs.Keeping.{AreKept};
+ghost use Rattle.gp_ask.specs.Keeping.{AreAnnotations};
 
 use crate::answered::Answered;
 use crate::deletion::remaining_answer;
-use crate::keeping::KeptAnnotations;
+use crate::keeping::DumpAnnotations;
 use crate::programs::program_answer;
 use crate::provenance::provenance_answer;
 use crate::queries::query_answer;
 use crate::seeing::saw_answer;
+use crate::valid::ValidQuery;
 use crate::values::value_answer;
 use gp_base::NoMemory;
 use gp_dump::Dump;
-use gp_syntax::{How, Point, Query, Subject};
+use gp_syntax::{How, Point, Subject};
 use std::alloc::Global;
 
 /// Answers a query over a state.
@@ -30,19 +28,17 @@ fn state_answer(
     dump: &Dump,
     how: &How,
     state: Point,
-    query: &Query,
-    kept: &mut KeptAnnotations,
+    query: ValidQuery<'_>,
+    kept: &mut DumpAnnotations,
 ) -> Result<Answered, NoMemory>
-    requires rules { IsAnswerable (dump_view dump.now) }
-    requires valid { tables_are_valid (tables_in (dump_view dump.now).entries) ≡ true }
-    requires query { query_is_valid (query_view query.now) ≡ true }
-    requires few { has_few_items (query_view query.now) ≡ true }
-    requires kept { AreKept dump.now kept.old }
-    ensures kept { AreKept dump.now kept.new }
+    requires kept { AreAnnotations dump.now kept.old }
+    ensures kept { AreAnnotations dump.now kept.new }
     ensures answered { IfOk result (λ answered. answered ≡ computed_answer (dump_view dump.now)
-        (y.ask (y.of_state (how_view how.now) (point_view state)) (query_view query.now))) }
+        (y.ask (y.of_state (how_view how.now) (point_view state))
+        (query_view query.entry.read.now))) }
     ensures explained { IfOk result (λ answered. ExplainsQuestion (dump_view dump.now).entries
-        (y.ask (y.of_state (how_view how.now) (point_view state)) (query_view query.now))) }
+        (y.ask (y.of_state (how_view how.now) (point_view state))
+        (query_view query.entry.read.now))) }
 {
     match how {
         How::Rows => query_answer(alloc, dump, state, query),
@@ -78,19 +74,15 @@ pub fn ask_answer(
     alloc: Global,
     dump: &Dump,
     subject: &Subject,
-    query: &Query,
-    kept: &mut KeptAnnotations,
+    query: ValidQuery<'_>,
+    kept: &mut DumpAnnotations,
 ) -> Result<Answered, NoMemory>
-    requires rules { IsAnswerable (dump_view dump.now) }
-    requires valid { tables_are_valid (tables_in (dump_view dump.now).entries) ≡ true }
-    requires query { query_is_valid (query_view query.now) ≡ true }
-    requires few { has_few_items (query_view query.now) ≡ true }
-    requires kept { AreKept dump.now kept.old }
-    ensures kept { AreKept dump.now kept.new }
+    requires kept { AreAnnotations dump.now kept.old }
+    ensures kept { AreAnnotations dump.now kept.new }
     ensures answered { IfOk result (λ answered. answered ≡ computed_answer (dump_view dump.now)
-        (y.ask (subject_view subject.now) (query_view query.now))) }
+        (y.ask (subject_view subject.now) (query_view query.entry.read.now))) }
     ensures explained { IfOk result (λ answered. ExplainsQuestion (dump_view dump.now).entries
-        (y.ask (subject_view subject.now) (query_view query.now))) }
+        (y.ask (subject_view subject.now) (query_view query.entry.read.now))) }
 {
     match subject {
         Subject::State { how, state } => state_answer(alloc, dump, how, *state, query, kept),

@@ -6,12 +6,11 @@ ghost use Rattle.gp_grammar.specs.Syntax as y;
 ghost use Rattle.gp_log.specs.Contents.{entries};
 ghost use Rattle.gp_log.specs.Logs.{entry_view};
 ghost use Rattle.gp_machine.specs.Entries as m;
-ghost use Rattle.gp_ask.specs.Answerable.{IsAnswerable};
 ghost use Rattle.gp_ask.specs.Begins.{IsKnownBegin};
 ghost use Rattle.gp_ask.specs.Computed.{computed_answer};
 ghost use Rattle.gp_ask.specs.Transactions as s;
 
-use crate::answered::Answered;
+use crate::answered::{Answered, Heading};
 use gp_base::{Fate, NoMemory, Sequence, Text, text_of_pieces};
 use gp_dump::Dump;
 use gp_log::{Entry, Log, What};
@@ -100,14 +99,13 @@ fn push_begun(
 /// The transactions of the log of a dump, in the order of their numbers: one pass over its entries. Running out of memory is the only
 /// error.
 pub fn transactions_answer(alloc: Global, dump: &Dump) -> Result<Answered, NoMemory>
-    requires rules { IsAnswerable (dump_view dump.now) }
     ensures { IfOk result (λ answered. answered
-        ≡ computed_answer (dump_view dump.now) y.transactions) }
+        ≡ computed_answer (dump_view dump.now) (y.bare y.transactions)) }
 {
     let log = &dump.log;
     let mut lines = Sequence::new(alloc);
     for place in 0..log.len() {
         push_begun(alloc, log, log.entry(place), &mut lines)?;
     }
-    Ok(Answered::Transactions(lines))
+    Ok(Answered::Lines(Heading::Transactions, lines))
 }

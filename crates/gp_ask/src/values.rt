@@ -5,7 +5,6 @@ ghost use Rattle.gp_grammar.specs.Syntax as y;
 ghost use Rattle.gp_algebra.specs.Fitting.{select_fits};
 ghost use Rattle.gp_algebra.specs.Views.{select_view};
 ghost use Rattle.gp_base.specs.declared.refusal.Refusal.TheVariants.{E28};
-ghost use Rattle.gp_check.specs.Valid.{query_is_valid, tables_are_valid};
 ghost use Rattle.gp_dump.specs.Views.{dump_view};
 ghost use Rattle.gp_history.specs.Agreement.{agree};
 ghost use Rattle.gp_history.specs.Values.{HasFewItems};
@@ -16,26 +15,26 @@ ghost use Rattle.gp_log.specs.LogFacts.{tables_in};
 ghost use Rattle.gp_syntax.specs.Views.{how_view, query_view, rule_view, point_view};
 ghost use Rattle.gp_semiring.specs.Values.{token_value};
 ghost use Rattle.gp_history.specs.ValueForms as a;
-ghost use Rattle.gp_ask.specs.Answerable.{IsAnswerable, has_few_items};
 ghost use Rattle.gp_ask.specs.Asking.{table_spans};
 ghost use Rattle.gp_ask.specs.AskingForms as f;
 ghost use Rattle.gp_ask.specs.ValueForms.{dump_values};
 ghost use Rattle.gp_ask.specs.Hypothetical as h;
-ghost use Rattle.gp_ask.specs.Keeping.{AreKept, MayBeKeptBy};
+ghost use Rattle.gp_ask.specs.Keeping.{AreAnnotations, MayBeKeptBy};
 ghost use Rattle.gp_ask.specs.Operations as o;
 ghost use Rattle.gp_ask.specs.Values as v;
 
 use crate::answered::{Answered, Valued};
-use crate::keeping::{KeptAnnotations, KeptValues, rows_with_values};
+use crate::keeping::{DumpAnnotations, KeptValues, rows_with_values};
 use crate::queries::asked;
 use crate::rules::rules_of;
+use crate::valid::ValidQuery;
 use gp_algebra::Select;
 use gp_base::{NoMemory, Refusal, Sequence, Stop, Text};
 use gp_dump::Dump;
 use gp_grammar::SemiringName;
 use gp_kexec::KRow;
 use gp_semiring::{Bool, Cost, Count, Level, Poly, PosBool, Rules, Semiring, first_outside};
-use gp_syntax::{How, Point, Query, Rule};
+use gp_syntax::{How, Point, Rule};
 use std::alloc::Global;
 
 /// The name of a semiring, as it is printed.
@@ -149,7 +148,6 @@ fn rows_by<K: Semiring>(
     rules: Rules,
     slot: &mut Option<KeptValues<K>>,
 ) -> Result<Answered, NoMemory>
-    requires rules { IsAnswerable (dump_view dump.now) }
     requires fits { select_fits (tables_in (dump_view dump.now).entries) (select_view select.now)
         ≡ true }
     requires few { HasFewItems (select_view select.now) }
@@ -178,7 +176,6 @@ fn values_in<K: Semiring>(
     rules: Rules,
     slot: &mut Option<KeptValues<K>>,
 ) -> Result<Answered, NoMemory>
-    requires rules { IsAnswerable (dump_view dump.now) }
     requires fits { select_fits (tables_in (dump_view dump.now).entries) (select_view select.now)
         ≡ true }
     requires few { HasFewItems (select_view select.now) }
@@ -202,14 +199,13 @@ fn selected_values(
     select: &Select,
     name: SemiringName,
     rules: Rules,
-    kept: &mut KeptAnnotations,
+    kept: &mut DumpAnnotations,
 ) -> Result<Answered, NoMemory>
-    requires rules { IsAnswerable (dump_view dump.now) }
     requires fits { select_fits (tables_in (dump_view dump.now).entries) (select_view select.now)
         ≡ true }
     requires few { HasFewItems (select_view select.now) }
-    requires kept { AreKept dump.now kept.old }
-    ensures kept { AreKept dump.now kept.new }
+    requires kept { AreAnnotations dump.now kept.old }
+    ensures kept { AreAnnotations dump.now kept.new }
     ensures answered { IfOk result (λ answered. answered ≡ dump_values (o.operations_of name) name
         (rules.rules, rules.other) (dump_view dump.now) (point_view state) (select_view select.now)) }
 {
@@ -245,20 +241,17 @@ pub fn value_answer(
     rules: &[Rule],
     other: Option<u64>,
     state: Point,
-    query: &Query,
-    kept: &mut KeptAnnotations,
+    query: ValidQuery<'_>,
+    kept: &mut DumpAnnotations,
 ) -> Result<Answered, NoMemory>
-    requires rules { IsAnswerable (dump_view dump.now) }
-    requires valid { tables_are_valid (tables_in (dump_view dump.now).entries) ≡ true }
-    requires query { query_is_valid (query_view query.now) ≡ true }
-    requires few { has_few_items (query_view query.now) ≡ true }
-    requires kept { AreKept dump.now kept.old }
-    ensures kept { AreKept dump.now kept.new }
+    requires kept { AreAnnotations dump.now kept.old }
+    ensures kept { AreAnnotations dump.now kept.new }
     ensures answered { IfOk result (λ answered. answered ≡ f.dump_query (dump_view dump.now)
         (dump_values (o.operations_of name) name (f.rules_of (map rule_view rules.now) other)
-        (dump_view dump.now) (point_view state)) (point_view state) (query_view query.now)) }
+        (dump_view dump.now) (point_view state)) (point_view state)
+        (query_view query.entry.read.now)) }
 {
-    match asked(alloc, &dump.log, state, query) {
+    match asked(alloc, &dump.log, state, query.read) {
         Ok(select) => {
             let rules = rules_of(alloc, rules, other)?;
             selected_values(alloc, dump, state, &select, name, rules, kept)

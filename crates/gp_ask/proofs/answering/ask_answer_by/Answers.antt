@@ -14,5 +14,5 @@ pub returns : goal.returns
 returns g c =
     subst
     (λ (subject : Subject). IfOk c.query_answer_by.result (λ (answered : Answered). AnswersBy (g.B.Backend.gives c.args.backend.now) (dump_view c.args.dump.now)
-    (y.ask (subject_view subject) (query_view c.args.query.now)) answered))
+    (y.ask (subject_view subject) (query_view c.args.query.read.now)) answered))
     (sym (c.in-State.is ∙ ap (λ (how : How). asked_of.State how c.in-State.state) c.in-Rows.is)) c.query_answer_by.ensures

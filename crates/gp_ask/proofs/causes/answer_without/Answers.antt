@@ -14,33 +14,21 @@ use Rattle.gp_ask.proofs.CausesLemmas.{copies-made}
 use Rattle.gp_ask.proofs.ProvenanceLemmas.{replayable}
 use Rattle.gp_ask.proofs.causes.answer_without.Goals as goal
 
-pub what_if_from-requires-clause-rules : goal.what_if_from-requires-clause-rules
-what_if_from-requires-clause-rules c = c.requires.asked.rules
-
-pub what_if_from-requires-clause-valid : goal.what_if_from-requires-clause-valid
-what_if_from-requires-clause-valid c = c.requires.asked.valid
-
 pub what_if_from-requires-clause-statements : goal.what_if_from-requires-clause-statements
 what_if_from-requires-clause-statements c = rw c.dropping.ensures refl
 
 pub what_if_from-requires-clause-changes : goal.what_if_from-requires-clause-changes
 what_if_from-requires-clause-changes c = rw c.dropping.ensures refl
 
-pub what_if_from-requires-clause-query : goal.what_if_from-requires-clause-query
-what_if_from-requires-clause-query c = c.requires.asked.query
-
-pub what_if_from-requires-clause-few : goal.what_if_from-requires-clause-few
-what_if_from-requires-clause-few c = c.requires.asked.few
-
 pub what_if_from-requires-clause-made : goal.what_if_from-requires-clause-made
 what_if_from-requires-clause-made c = λ new is.
     let dump = dump_view c.args.asked.now.dump.now in
-    let replays = replayable dump c.requires.asked.rules in
-    let change : changed_log parameters dump.entries (y.drop c.args.own.t c.args.own.k ∷ []) ≡ Ok new =
+    let replays = replayable dump c.requires.rules in
+    let change : changed_log parameters dump.entries (y.drop c.args.write.t c.args.write.k ∷ []) ≡ Ok new =
     subst (λ (own : LogChange). changed_log parameters dump.entries (own ∷ []) ≡ Ok new) c.dropping.ensures is in
-    let within = c.changes_keep_earlier_versions.ensures.within dump.entries new c.args.own.t c.args.own.k (suc c.args.before) replays c.requires.version change in (
+    let within = c.changes_keep_earlier_versions.ensures.within dump.entries new c.args.write.t c.args.write.k (suc c.args.before) replays c.requires.version change in (
       omega (arith, within),
-      c.changes_keep_earlier_versions.ensures.made dump.entries new c.args.own.t c.args.own.k (suc c.args.before) replays c.requires.version change c.args.before (omega arith) c.in_ok-copies.copies.items
+      c.changes_keep_earlier_versions.ensures.made dump.entries new c.args.write.t c.args.write.k (suc c.args.before) replays c.requires.version change c.args.before (omega arith) c.in_ok-copies.copies.items
           (copies-made dump.entries c.args.before c.args.versions.now c.in_ok-copies.copies.items c.requires.made c.in_ok-copies.ensures.count c.in_ok-copies.ensures.spans),
     )
 
@@ -48,7 +36,7 @@ pub returns : goal.returns
 returns c =
     let dump = dump_view c.args.asked.now.dump.now in
     let subject = subject_view c.args.asked.now.subject.now in
-    let query = query_view c.args.asked.now.query.now in
+    let query = query_view c.args.asked.now.query.read.now in
     IfOk-weaker c.what_if_from.result (λ (a : Answered). a ≡ computed_answer dump (y.what_if (change_view c.dropping.result ∷ []) subject query))
-    (λ (a : Answered). a ≡ without_in (what_if_answer dump.entries) subject query (write_view c.args.own))
+    (λ (a : Answered). a ≡ without_in (what_if_answer dump.entries) subject query (write_view c.args.write))
     (λ a is. is ∙ ap (λ (change : LogChange). what_if_answer dump.entries (change ∷ []) subject query) c.dropping.ensures) c.what_if_from.ensures.answered

@@ -16,9 +16,9 @@ pub returns : goal.returns
 returns c =
     let asked = c.args.asked.now in
     let entries : List Entry = (dump_view asked.dump.now).entries in
-    let f : ℕ × ℕ → List (List ℕ) = λ own. cause_of asked.rows.now own (rows_in (without_in (what_if_answer entries) (subject_view asked.subject.now) (query_view asked.query.now) own)) in
+    let f : ℕ × ℕ → List (List ℕ) = λ own. cause_of asked.rows.now own (rows_in (without_in (what_if_answer entries) (subject_view asked.subject.now) (query_view asked.query.read.now) own)) in
     let writes = c.in_ok-writes.writes.items in
     let found = c.in_ok-found.found.items in
     let put = subst (λ (own : List Write). ArePut asked own (versions_in entries) found) c.deref.ensures.value c.in_ok-found.ensures in
     IfOk-weaker c.all_lines.result (λ (lines : List (List ℕ)). lines ≡ flat_map listed_line found) (λ (lines : List (List ℕ)). lines ≡ flat_map f (committed_writes entries))
-    (λ lines is. is ∙ put-lines f asked entries writes found c.in_ok-writes.ensures.versions put (λ own line says. says) ∙ ap (flat_map f) c.in_ok-writes.ensures.own) c.all_lines.ensures
+    (λ lines is. is ∙ put-lines f asked entries writes found c.in_ok-writes.ensures.versions put (λ own line says. says) ∙ ap (flat_map f) c.in_ok-writes.ensures.statements) c.all_lines.ensures

@@ -18,7 +18,7 @@ pub returns-in-None-clause-answered : goal.returns-in-None-clause-answered
 returns-in-None-clause-answered c =
     let dump = dump_view c.args.dump.now in
     let subject = subject_view c.args.subject.now in
-    let query = query_view c.args.query.now in
+    let query = query_view c.args.query.read.now in
     let answer : Answered = causes_of (without_in (what_if_answer dump.entries) subject query) (committed_writes dump.entries) (d.rows_in (query_to (replayed_dump dump.entries) subject query)) in
     let refusal = option_or (asking_refusal dump.entries subject query) (unmade_refusal dump) in
     let none : refusal ≡ None = sym c.in_ok-refusal.ensures.refusal ∙ c.in-None.is in
@@ -28,5 +28,5 @@ returns-in-None-clause-answered c =
 -- once nothing refuses the question, the rows are made
 pub caused_answer-requires-clause-made : goal.caused_answer-requires-clause-made
 caused_answer-requires-clause-made c =
-    (none_parts (asking_refusal (dump_view c.args.dump.now).entries (subject_view c.args.subject.now) (query_view c.args.query.now)) (unmade_refusal (dump_view c.args.dump.now))
+    (none_parts (asking_refusal (dump_view c.args.dump.now).entries (subject_view c.args.subject.now) (query_view c.args.query.read.now)) (unmade_refusal (dump_view c.args.dump.now))
     (sym c.in_ok-refusal.ensures.refusal ∙ c.in-None.is)).1

@@ -15,5 +15,5 @@ loop-place-preserved c =
       subst (AreWrites (log_view entries)) (sym wrote) (next-versions (log_view entries) c.entry.result.now c.loop-place.writes.items c.loop-place.invariant.1),
     )
 
-pub returns-clause-own : goal.returns-clause-own
-returns-clause-own c = c.loop-place.invariant.0 ∙ all-writes c.args.log.now.entries c.loop-place.place (omega (arith, c.len-place-end.ensures, c.loop-place-test.false))
+pub returns-clause-statements : goal.returns-clause-statements
+returns-clause-statements c = c.loop-place.invariant.0 ∙ all-writes c.args.log.now.entries c.loop-place.place (omega (arith, c.len-place-end.ensures, c.loop-place-test.false))

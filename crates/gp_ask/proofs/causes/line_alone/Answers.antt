@@ -8,32 +8,20 @@ use Rattle.gp_ask.specs.Computed.{what_if_answer}
 use Rattle.gp_ask.specs.Writes.{IsLine, listed_line, write_view}
 use Rattle.gp_ask.proofs.causes.line_alone.Goals as goal
 
-pub what_if_answer-requires-clause-rules : goal.what_if_answer-requires-clause-rules
-what_if_answer-requires-clause-rules c = c.requires.rules
-
-pub what_if_answer-requires-clause-valid : goal.what_if_answer-requires-clause-valid
-what_if_answer-requires-clause-valid c = c.requires.valid
-
 pub what_if_answer-requires-clause-statements : goal.what_if_answer-requires-clause-statements
 what_if_answer-requires-clause-statements c = rw c.dropping.ensures refl
 
 pub what_if_answer-requires-clause-changes : goal.what_if_answer-requires-clause-changes
 what_if_answer-requires-clause-changes c = rw c.dropping.ensures refl
 
-pub what_if_answer-requires-clause-query : goal.what_if_answer-requires-clause-query
-what_if_answer-requires-clause-query c = c.requires.query
-
-pub what_if_answer-requires-clause-few : goal.what_if_answer-requires-clause-few
-what_if_answer-requires-clause-few c = c.requires.few
-
 pub returns : goal.returns
 returns c =
     let dump = dump_view c.args.asked.now.dump.now in
     let subject = subject_view c.args.asked.now.subject.now in
-    let query = query_view c.args.asked.now.query.now in
+    let query = query_view c.args.asked.now.query.read.now in
     let rows = c.args.asked.now.rows.now in
-    let own = write_view c.args.own in
-    IfOk-weaker c.cause_line.result (λ (line : Option (List ℕ)). listed_line line ≡ cause_of rows own c.rows_in.result) (IsLine c.args.asked.now c.args.own)
+    let own = write_view c.args.write in
+    IfOk-weaker c.cause_line.result (λ (line : Option (List ℕ)). listed_line line ≡ cause_of rows own c.rows_in.result) (IsLine c.args.asked.now c.args.write)
     (λ line is.
     is
     ∙ ap (cause_of rows own)

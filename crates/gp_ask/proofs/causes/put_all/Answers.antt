@@ -24,7 +24,7 @@ loop-before-preserved c =
 pub make_version-requires : goal.make_version-requires
 make_version-requires c = record {
   next = record {
-    replayable = replayable (dump_view c.args.asked.now.dump.now) c.requires.asked.rules;
+    replayable = replayable (dump_view c.args.asked.now.dump.now) c.requires.rules;
     within = omega (arith, c.loop-before-test.true, c.commits-before-end.ensures);
     made = rw c.deref_mut.ensures.value c.loop-before.invariant.0;
     few = omega (arith, ap length c.deref_mut.ensures.value, c.loop-before.invariant.0.count, c.bounds.ensures.tables);

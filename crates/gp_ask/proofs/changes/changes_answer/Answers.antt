@@ -48,6 +48,6 @@ returns-in-None c =
     let dump = dump_view c.args.dump.now in
     let number = c.transaction_number-number.result in
     let statement = c.statement_number-statement.result in
-    IfOk-weaker c.statement_changes.result (λ (a : Answered). a ≡ if_any (dump_changes dump number (statement - 1)) (statement_at number statement dump.entries)) (λ (a : Answered). a ≡ computed_answer dump (y.changes c.args.t c.args.k))
+    IfOk-weaker c.statement_changes.result (λ (a : Answered). a ≡ if_any (dump_changes dump number (statement - 1)) (statement_at number statement dump.entries)) (λ (a : Answered). a ≡ computed_answer dump (y.bare (y.changes c.args.t c.args.k)))
     (λ a is. is ∙ changes-by dump c.args.t c.args.k number statement (sym c.in-None.ensures) c.transaction_number-number.ensures c.statement_number-statement.ensures
     ∙ sym (changes-told dump c.args.t c.args.k)) c.statement_changes.ensures

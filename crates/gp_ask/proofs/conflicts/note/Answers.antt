@@ -10,7 +10,7 @@ returns c =
     let id = c.args.id.now in
     let old = c.args.met.now in
     let new = c.insert.new.self in
-    let own = c.first_of-own.result in
+    let own = c.first_of-first.result in
     let key : c.in_ok-clone.field-0 ≡ id = c.in_ok-clone.ensures.cases in
     met-noted old new id own c.args.version (subst (λ (k : Identity). Updates identity_cmp old new k (Some own)) key c.in_ok-insert.ensures.updates)
-    (c.first_of-own.ensures ∙ ap (λ (found : Option ℕ). least found (Some c.args.version)) c.get.ensures.value)
+    (c.first_of-first.ensures ∙ ap (λ (found : Option ℕ). least found (Some c.args.version)) c.get.ensures.value)

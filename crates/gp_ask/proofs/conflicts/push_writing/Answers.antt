@@ -23,7 +23,7 @@ use Rattle.gp_ask.proofs.conflicts.push_writing.Goals as goal
 pub returns-then-not-any_met : goal.returns-then-not-any_met
 returns-then-not-any_met c =
     let dump : Dump = dump_view c.args.dump.now in
-    let own = c.args.own.now in
+    let own = c.args.statement.now in
     let statement = statement_view own.stmt.now in
     let old = c.args.lines.now.items in
     let upto = c.args.upto in
@@ -38,7 +38,7 @@ returns-then-not-any_met c =
 pub returns : goal.returns
 returns c =
     let dump : Dump = dump_view c.args.dump.now in
-    let own = c.args.own.now in
+    let own = c.args.statement.now in
     let statement = statement_view own.stmt.now in
     let old = c.args.lines.now.items in
     let upto = c.args.upto in

@@ -15,7 +15,7 @@ use Rattle.gp_ask.proofs.differences.diff_answer.Goals as goal
 pub sides_answer-requires-clause-made : goal.sides_answer-requires-clause-made
 sides_answer-requires-clause-made c = λ mixed.
     let dump = dump_view c.args.dump.now in
-    mixed-made (unmade_refusal dump) dump.entries (side_view c.args.first.now) (side_view c.args.second.now) (query_view c.args.query.now)
+    mixed-made (unmade_refusal dump) dump.entries (side_view c.args.first.now) (side_view c.args.second.now) (query_view c.args.query.read.now)
     (sym c.in_ok-refusal.ensures.refusal ∙ c.in-None.is) (sym c.are_mixed.ensures ∙ mixed)
 
 pub returns-in-None-clause-answered : goal.returns-in-None-clause-answered
@@ -23,7 +23,7 @@ returns-in-None-clause-answered c =
     let dump = dump_view c.args.dump.now in
     let first = side_view c.args.first.now in
     let second = side_view c.args.second.now in
-    let query = query_view c.args.query.now in
+    let query = query_view c.args.query.read.now in
     let answer : Bool → Answered = λ mixed. sides_of (d.side_answer (history_of mixed dump) (what_if_answer dump.entries)) first second query in
     let refusal = d.mixed_refusal (unmade_refusal dump) dump.entries first second query in
     let none : refusal ≡ None = sym c.in_ok-refusal.ensures.refusal ∙ c.in-None.is in

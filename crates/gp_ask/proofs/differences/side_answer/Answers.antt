@@ -14,10 +14,10 @@ pub returns-in-Changed-clause-answered : goal.returns-in-Changed-clause-answered
 returns-in-Changed-clause-answered c =
     let dump = dump_view c.args.dump.now in
     subst
-    (λ (side : Side). IfOk c.what_if_answer.result
-    (λ (answered : Answered). answered ≡ side_answer (history_of c.args.mixed dump) (what_if_answer dump.entries) (side_view side) (query_view c.args.query.now)))
+    (λ (side : Side). IfOk c.what_if_kept.result
+    (λ (answered : Answered). answered ≡ side_answer (history_of c.args.mixed dump) (what_if_answer dump.entries) (side_view side) (query_view c.args.query.read.now)))
     (sym c.in-Changed.is)
     (subst
-    (λ (own : List LogChange). IfOk c.what_if_answer.result
-    (λ (answered : Answered). answered ≡ what_if_answer dump.entries (changes_view own) (subject_view c.in-Changed.subject) (query_view c.args.query.now)))
-    c.as_slice.ensures c.what_if_answer.ensures.answered)
+    (λ (own : List LogChange). IfOk c.what_if_kept.result
+    (λ (answered : Answered). answered ≡ what_if_answer dump.entries (changes_view own) (subject_view c.in-Changed.subject) (query_view c.args.query.read.now)))
+    c.as_slice.ensures c.what_if_kept.ensures.answered)

@@ -21,7 +21,7 @@ use Rattle.gp_ask.proofs.hypothetical.remade_answer.Goals as goal
 pub returns-in-Explain-clause-answered : goal.returns-in-Explain-clause-answered
 returns-in-Explain-clause-answered c =
     let entries = log_view c.args.log.entries in
-    let query = query_view c.args.query.now in
+    let query = query_view c.args.query.read.now in
     subst
     (λ (subject : Subject). IfOk c.program_answer.result
     (λ (a : Answered). a ≡ h.remade_answer program_lines (query_to (h.replayed_dump entries)) entries (subject_view subject) query))
@@ -31,7 +31,7 @@ pub returns-in_default : goal.returns-in_default
 returns-in_default c =
     let entries = log_view c.args.log.entries in
     let subject = subject_view c.args.subject.now in
-    let query = query_view c.args.query.now in
+    let query = query_view c.args.query.read.now in
     let over = unless_refused (h.asking_refusal entries subject query) (unless_refused (h.remaking_refusal entries) (query_to (h.replayed_dump entries) subject query)) in
     let other : (prov : Bool) (own : Point) → c.args.subject.now ≡ asked_of.State (how_is.Explain prov) own → ⊥ =
     not-explained c.args.subject.now c.in-State.how c.in-State.state c.in-State.is c.in_default.not-Explain in
@@ -48,7 +48,7 @@ pub returns-in-Saw : goal.returns-in-Saw
 returns-in-Saw c =
     let entries = log_view c.args.log.entries in
     let subject = subject_view c.args.subject.now in
-    let query = query_view c.args.query.now in
+    let query = query_view c.args.query.read.now in
     let over = unless_refused (h.asking_refusal entries subject query) (unless_refused (h.remaking_refusal entries) (query_to (h.replayed_dump entries) subject query)) in
     let other : (prov : Bool) (own : Point) → c.args.subject.now ≡ asked_of.State (how_is.Explain prov) own → ⊥ =
     seen-not-explained c.args.subject.now c.in-Saw.t c.in-Saw.k c.in-Saw.is in

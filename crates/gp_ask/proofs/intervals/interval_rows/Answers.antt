@@ -6,7 +6,9 @@ use Rattle.gp_algebra.specs.Views.{select_view}
 use Rattle.gp_dump.specs.Dumps.{Dump}
 use Rattle.gp_dump.specs.Views.{dump_view}
 use Rattle.gp_machine.specs.Entries.{versions_in}
+use Rattle.gp_ask.specs.declared.answered.Heading.TheVariants.{When}
 use Rattle.gp_ask.specs.IntervalForms as f
+use Rattle.gp_ask.specs.RowLines.{listed}
 use Rattle.gp_ask.proofs.WhenLemmas.{first-refused, goes-refused, step-first, swept-last}
 use Rattle.gp_ask.proofs.intervals.interval_rows.Goals as goal
 
@@ -51,5 +53,5 @@ returns c =
     let was = c.loop-before.open in
     let old : List f.Open = zip was.rows.items was.froms.items in
     let all : c.loop-before.before ≡ versions_in dump.entries = omega (arith, c.commits-before-end.ensures, c.loop-before-test.false) in
-    ap f.listed c.in_ok-push_open.ensures
+    ap (listed When) c.in_ok-push_open.ensures
     ∙ swept-last dump select c.requires.fits old c.loop-before.ended.items (subst (λ n. f.IsSwept dump select n old c.loop-before.ended.items) all c.loop-before.invariant.swept)

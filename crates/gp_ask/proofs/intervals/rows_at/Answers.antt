@@ -1,4 +1,4 @@
-use Rattle.std.proofs.Common.{◌≡◌, ◌∙◌, Err, Global, List, Ok, Result, Vec, ap, subst, sym, ℕ}
+use Rattle.std.proofs.Common.{◌≡◌, ◌∙◌, Err, Global, List, Ok, Result, Vec, ap, subst}
 use Rattle.std.proofs.lemmas.Result.{err_from_is_err_and}
 use Rattle.gp_base.specs.declared.cell.Cell.{Cell}
 use Rattle.gp_base.specs.declared.refusal.Refusal.{Refusal}
@@ -8,21 +8,17 @@ use Rattle.gp_grammar.specs.Syntax as y
 use Rattle.gp_algebra.specs.Views.{select_view}
 use Rattle.gp_dump.specs.Dumps.{Dump}
 use Rattle.gp_dump.specs.Views.{dump_view}
-use Rattle.gp_log.specs.LogFacts.{tables_in}
-use Rattle.gp_log.specs.LogFitting.{SpansFit}
-use Rattle.gp_log.specs.Logs.{log_view}
 use Rattle.gp_log.specs.Parameters.{parameters}
 use Rattle.gp_machine.specs.Questions.{rows_answer}
 use Rattle.gp_reenact.specs.Reenacting.{Reenacts, spans_of}
-use Rattle.gp_versions.specs.declared.span.Span.{Span}
 use Rattle.gp_ask.specs.Asking.{table_spans}
+use Rattle.gp_ask.proofs.ProvenanceLemmas.{sound-versions}
 use Rattle.gp_ask.proofs.ReenactedLemmas.{dump-spans}
 use Rattle.gp_ask.proofs.WhenLemmas.{found-at, rows-stopped}
 use Rattle.gp_ask.proofs.intervals.rows_at.Goals as goal
 
 pub reenact-requires-clause-spans : goal.reenact-requires-clause-spans
-reenact-requires-clause-spans c =
-    subst (λ (own : ℕ → List Span). SpansFit (tables_in (log_view c.args.dump.now.log.entries)) own) (sym (ap spans_of c.as_slice.ensures ∙ dump-spans c.args.dump.now.versions)) c.requires.rules.spans
+reenact-requires-clause-spans c = (sound-versions c.args.dump.now c.as_slice.result.now c.as_slice.ensures).spans
 
 pub returns-in_err-rows : goal.returns-in_err-rows
 returns-in_err-rows c =

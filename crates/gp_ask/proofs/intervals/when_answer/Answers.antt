@@ -14,7 +14,7 @@ use Rattle.gp_ask.proofs.intervals.when_answer.Goals as goal
 pub returns-in-Ok : goal.returns-in-Ok
 returns-in-Ok c =
     let dump : Dump = dump_view c.args.dump.now in
-    let query = query_view c.args.query.now in
+    let query = query_view c.args.query.read.now in
     let select = select_view c.in-Ok.select in
     let checked = subst (λ (tables : List Table). checked_query tables query ≡ Ok select) c.catalog.ensures c.in-Ok.ensures.checked in
     subst (λ (own : Answered). IfOk c.selected_intervals.result (λ answered. answered ≡ own)) (when-checked dump query select checked) c.selected_intervals.ensures
@@ -22,7 +22,7 @@ returns-in-Ok c =
 pub returns-in-Err-Refused : goal.returns-in-Err-Refused
 returns-in-Err-Refused c =
     let dump : Dump = dump_view c.args.dump.now in
-    let query = query_view c.args.query.now in
+    let query = query_view c.args.query.read.now in
     let refusal = c.in-Err-Refused.refusal in
     let found = rw c.in-Err-Refused.field-0-is at c.in-Err-Refused.ensures in
     let checked = subst (λ (tables : List Table). checked_query tables query ≡ Err refusal) c.catalog.ensures found.checked in

@@ -16,7 +16,7 @@ use Rattle.gp_ask.proofs.ValueLemmas.{moved}
 use Rattle.gp_ask.proofs.keeping.rows_with_values.Goals as goal
 
 pub values_from-found-requires-clause-sound : goal.values_from-found-requires-clause-sound
-values_from-found-requires-clause-sound g c = sound-versions c.args.dump.now c.as_slice.result.now c.as_slice.ensures c.requires.rules
+values_from-found-requires-clause-sound g c = sound-versions c.args.dump.now c.as_slice.result.now c.as_slice.ensures
 
 -- what is taken is by the rules of the copy, which are those of the valuation
 pub values_from-found-requires-clause-kept : goal.values_from-found-requires-clause-kept
@@ -25,7 +25,7 @@ values_from-found-requires-clause-kept g c =
     let by = values_in k in
     let dump = c.args.dump.now in
     let rules : List Rule × Option ℕ = (c.args.rules.rules, c.args.rules.other) in
-    let taken = subst (λ (own : Rules). MayBeKeptOf (by (own.rules, own.other)) dump c.take_values-kept.result) c.in_ok-own.ensures (c.take_values-kept.ensures by dump c.requires.kept) in
+    let taken = subst (λ (own : Rules). MayBeKeptOf (by (own.rules, own.other)) dump c.take_values-kept.result) c.in_ok-copy.ensures (c.take_values-kept.ensures by dump c.requires.kept) in
     subst (λ (own : List Rule × Option ℕ). MayBeKept (by own) (log_view dump.log.entries) (spans_of c.as_slice.result.now) c.take_values-kept.result) (sym c.in_ok-valuation.ensures)
     (kept-of dump c.as_slice.result.now c.as_slice.ensures (by rules) c.take_values-kept.result taken)
 
@@ -39,7 +39,7 @@ returns-clause-kept g c =
     let kept =
     of-kept dump c.as_slice.result.now c.as_slice.ensures (by rules) left
     (subst (λ (own : List Rule × Option ℕ). MayBeKept (by own) (log_view dump.log.entries) (spans_of c.as_slice.result.now) left) c.in_ok-valuation.ensures c.values_from-found.ensures.kept) in
-    c.with_rules.ensures by dump (subst (λ (own : Rules). MayBeKeptOf (by (own.rules, own.other)) dump left) (sym c.in_ok-own.ensures) kept)
+    c.with_rules.ensures by dump (subst (λ (own : Rules). MayBeKeptOf (by (own.rules, own.other)) dump left) (sym c.in_ok-copy.ensures) kept)
 
 pub returns-clause-answer : goal.returns-clause-answer
 returns-clause-answer g c =

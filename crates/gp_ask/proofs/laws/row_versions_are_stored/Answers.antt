@@ -1,6 +1,6 @@
 use Rattle.gp_dump.proofs.LawLemmas.{whole-text}
 use Rattle.gp_dump.specs.WholeDumps.{IsDump}
-use Rattle.gp_ask.proofs.ProvenanceLemmas.{answerable}
+use Rattle.gp_dump.proofs.AnswerableLemmas.{answerable}
 use Rattle.gp_ask.proofs.laws.row_versions_are_stored.Goals as goal
 
 pub returns : goal.returns

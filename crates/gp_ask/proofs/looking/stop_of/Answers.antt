@@ -11,7 +11,7 @@ use Rattle.gp_ask.proofs.looking.stop_of.Goals as goal
 pub returns-in-Some : goal.returns-in-Some
 returns-in-Some c =
     let dump : Dump = dump_view c.args.dump.now in
-    let own = c.in-Some.own in
+    let own = c.in-Some.statement in
     let found : l.IsLastStopping c.args.t dump.entries (Some own) = c.in-Some.ensures in
     let most : own.k ≤ statement_count c.args.t dump.entries = subst (λ t. own.k ≤ statement_count t dump.entries) found.0 found.1.0.most in
     let same : l.stop_at dump own.t own.k ≡ l.stop_of dump c.args.t = ap (λ t. l.stop_at dump t own.k) found.0 ∙ stop-last dump c.args.t own.k most found.1.1 in

@@ -1,13 +1,12 @@
 use Rattle.std.proofs.Common.{◌∙◌, Bool, List, ap, length, subst, sym}
-use Rattle.gp_dump.specs.Views.{dump_view}
 use Rattle.gp_versions.specs.Spans.{Versions}
 use Rattle.gp_ask.specs.MadeForms.{AreDiffering}
-use Rattle.gp_ask.proofs.ProvenanceLemmas.{answerable, sound}
+use Rattle.gp_ask.proofs.ProvenanceLemmas.{sound}
 use Rattle.gp_ask.proofs.made.compared.Goals as goal
 
 pub differing_tables-requires : goal.differing_tables-requires
 differing_tables-requires c =
-    c.requires.made.count ∙ sym (sound c.args.dump.now (answerable (dump_view c.args.dump.now) c.requires.rules)).tables ∙ ap length (sym c.as_slice.ensures)
+    c.requires.made.count ∙ sym (sound c.args.dump.now).tables ∙ ap length (sym c.as_slice.ensures)
 
 pub decided-requires-clause-flags : goal.decided-requires-clause-flags
 decided-requires-clause-flags c =

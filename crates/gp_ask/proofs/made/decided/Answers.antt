@@ -11,7 +11,7 @@ use Rattle.gp_whatif.specs.Replays.{IsMade}
 use Rattle.gp_ask.specs.Made as m
 use Rattle.gp_ask.specs.MadeForms.{AreDiffering}
 use Rattle.gp_ask.proofs.MadeRows.{has-made, unmade-is}
-use Rattle.gp_ask.proofs.ProvenanceLemmas.{answerable, sound, spans-are}
+use Rattle.gp_ask.proofs.ProvenanceLemmas.{sound, spans-are}
 use Rattle.gp_ask.proofs.made.decided.Goals as goal
 
 -- what is compared decides
@@ -24,7 +24,7 @@ module _ (dump : code.Dump) (own made : List Versions) (same : own ≡ dump.vers
 
 pub differing_refusal-requires-clause-tables : goal.differing_refusal-requires-clause-tables
 differing_refusal-requires-clause-tables c = record {
-  own = ap length c.as_slice.ensures ∙ (sound c.args.dump.now (answerable (dump_view c.args.dump.now) c.requires.rules)).tables;
+  own = ap length c.as_slice.ensures ∙ (sound c.args.dump.now).tables;
   other = c.requires.made.count;
   few = c.bounds.ensures.tables;
 }
@@ -43,5 +43,5 @@ returns-in-None-clause-refusal c =
 pub returns-in-None-clause-kept : goal.returns-in-None-clause-kept
 returns-in-None-clause-kept c = (
   sym (decides c.args.dump.now c.as_slice.result.now c.args.made.now c.as_slice.ensures c.requires.made) ∙ sym c.in_ok-refusal.ensures ∙ c.in-None.is,
-  λ yes. has-made c.args.dump.now (answerable (dump_view c.args.dump.now) c.requires.rules) c.args.made.now c.requires.made c.args.flags.now c.requires.flags (sym c.has_none.ensures ∙ yes),
+  λ yes. has-made c.args.dump.now c.args.made.now c.requires.made c.args.flags.now c.requires.flags (sym c.has_none.ensures ∙ yes),
 )

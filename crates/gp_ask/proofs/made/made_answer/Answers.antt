@@ -8,20 +8,17 @@ use Rattle.gp_ask.specs.Computed.{computed_answer}
 use Rattle.gp_ask.specs.Hypothetical.{replayed_dump}
 use Rattle.gp_ask.specs.Printed.{query_to}
 use Rattle.gp_ask.proofs.MadeRows.{found-made, remaking-none, unstopped}
-use Rattle.gp_ask.proofs.ProvenanceLemmas.{answerable, replayable}
+use Rattle.gp_ask.proofs.ProvenanceLemmas.{replayable}
 use Rattle.gp_ask.proofs.made.made_answer.Goals as goal
 
 pub remade_history_answer-requires-clause-made : goal.remade_history_answer-requires-clause-made
 remade_history_answer-requires-clause-made c = remaking-none (dump_view c.args.dump.now) c.requires.made
 
-pub ask_answer-requires-clause-rules : goal.ask_answer-requires-clause-rules
-ask_answer-requires-clause-rules c = answerable (dump_view c.args.dump.now) c.requires.rules
-
 pub returns-then-was_found-clause-answered : goal.returns-then-was_found-clause-answered
 returns-then-was_found-clause-answered c =
     let dump = dump_view c.args.dump.now in
     let subject = subject_view c.args.subject.now in
-    let query = query_view c.args.query.now in
+    let query = query_view c.args.query.read.now in
     IfOk-weaker c.ask_answer.result (λ (a : Answered). a ≡ computed_answer dump (y.ask subject query)) (λ (a : Answered). a ≡ query_to (replayed_dump dump.entries) subject query)
     (λ a is.
     is

@@ -14,12 +14,12 @@ loop-span-preserved c =
     let place = c.loop-span.span-index in
     let asks : Span → Bool = λ (span : Span). is_some (get identity_cmp c.args.asked.now span.id) in
     ap (λ (own : List Span). own ++ filter asks (drop (place + 1) spans)) c.in_ok-push_asked.ensures
-    ∙ asked-more asks spans c.loop-span.own.items place c.span-item.result c.loop-span-test.true c.span-item.is
+    ∙ asked-more asks spans c.loop-span.found.items place c.span-item.result c.loop-span-test.true c.span-item.is
     ∙ c.loop-span.invariant
 
 pub returns : goal.returns
 returns c =
     let spans = c.args.spans.now in
     let asks : Span → Bool = λ (span : Span). is_some (get identity_cmp c.args.asked.now span.id) in
-    let own = c.loop-span.own.items in
+    let own = c.loop-span.found.items in
     sym (append-nil own) ∙ ap (λ (rest : List Span). own ++ filter asks rest) (sym (drop_all c.loop-span.span-index spans (omega (arith, c.loop-span-test.false)))) ∙ c.loop-span.invariant

@@ -9,4 +9,4 @@ use Rattle.gp_ask.proofs.narrowing.asked_spans.Given as goal
 -- those so far, and those of what remains
 abbrev pub invariant-loop-span : goal.invariant-loop-span
 invariant-loop-span l =
-    l.own.items ++ filter (λ (span : Span). is_some (get identity_cmp l.asked span.id)) (drop l.span-index l.spans) ≡ filter (λ (span : Span). is_some (get identity_cmp l.asked span.id)) l.spans
+    l.found.items ++ filter (λ (span : Span). is_some (get identity_cmp l.asked span.id)) (drop l.span-index l.spans) ≡ filter (λ (span : Span). is_some (get identity_cmp l.asked span.id)) l.spans

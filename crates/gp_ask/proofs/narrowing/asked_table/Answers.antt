@@ -1,4 +1,4 @@
-use Rattle.std.proofs.Common.{Bool, List, subst, sym}
+use Rattle.std.proofs.Common.{Bool, subst, sym}
 use Rattle.std.specs.BTreeMap.{get}
 use Rattle.std.specs.Option.{is_some}
 use Rattle.gp_base.specs.Identities.{identity_cmp}

@@ -4,4 +4,4 @@ use Rattle.gp_ask.proofs.narrowing.narrowed.Given as goal
 
 -- as many tables as turns, none of which has a span
 abbrev pub invariant-loop : goal.invariant-loop
-invariant-loop l = (length l.own.items ≡ l.counter) × ((place : ℕ) → spans_of l.own.items place ≡ [])
+invariant-loop l = (length l.tables.items ≡ l.counter) × ((place : ℕ) → spans_of l.tables.items place ≡ [])

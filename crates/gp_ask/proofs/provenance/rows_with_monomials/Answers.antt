@@ -9,7 +9,7 @@ use Rattle.gp_ask.proofs.ProvenanceLemmas.{kept-of, of-kept, proves-moved, sound
 use Rattle.gp_ask.proofs.provenance.rows_with_monomials.Goals as goal
 
 pub provenance_from-requires-clause-sound : goal.provenance_from-requires-clause-sound
-provenance_from-requires-clause-sound c = sound-versions c.args.dump.now c.as_slice.result.now c.as_slice.ensures c.requires.rules
+provenance_from-requires-clause-sound c = sound-versions c.args.dump.now c.as_slice.result.now c.as_slice.ensures
 
 pub provenance_from-requires-clause-kept : goal.provenance_from-requires-clause-kept
 provenance_from-requires-clause-kept c = kept-of c.args.dump.now c.as_slice.result.now c.as_slice.ensures monomials c.args.kept.now c.requires.kept

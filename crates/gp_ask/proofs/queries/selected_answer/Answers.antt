@@ -20,7 +20,7 @@ use Rattle.gp_ask.proofs.BackendLemmas.{found_is_answered, past_is, refusal_is_a
 use Rattle.gp_ask.proofs.queries.selected_answer.Goals as goal
 
 pub reenact_by-requires : goal.reenact_by-requires
-reenact_by-requires g c = record { fits = c.requires.fits; statements = c.requires.rules.statements }
+reenact_by-requires g c = record { fits = c.requires.fits; statements = c.args.dump.now.answerable.statements }
 
 pub returns-in-Ok : goal.returns-in-Ok
 returns-in-Ok g c =

@@ -17,13 +17,13 @@ use Rattle.gp_ask.specs.RowLines.{few, keyed_from}
 use Rattle.gp_ask.proofs.HistoryLines.{maker-known, stop-later}
 use Rattle.gp_ask.proofs.row_histories.history_lines.Goals as goal
 
-pub stop_of-requires-clause-known : goal.stop_of-requires-clause-known
-stop_of-requires-clause-known c =
+pub stop_of-requires : goal.stop_of-requires
+stop_of-requires c =
     let dump : Dump = dump_view c.args.dump.now in
     let u = c.loop-before.before in
     let next : u + 1 ≡ suc u = omega arith in
     let within : u < versions_in dump.entries = omega (arith, c.commits-before-end.ensures, c.loop-before-test.true) in
-    subst (λ t. is_known t dump.entries ≡ true) (sym (c.maker-t.ensures ∙ ap (λ n. committer_of n dump.entries) next)) (maker-known dump.entries c.requires.rules.sessions u within)
+    record { known = subst (λ t. is_known t dump.entries ≡ true) (sym (c.maker-t.ensures ∙ ap (λ n. committer_of n dump.entries) next)) (maker-known dump.entries c.args.dump.now.answerable.sessions u within) }
 
 pub loop-before-preserved : goal.loop-before-preserved
 loop-before-preserved c =
@@ -45,7 +45,7 @@ push_transaction-requires-clause-known c =
     let u = c.loop-before.before in
     let next : u + 1 ≡ suc u = omega arith in
     let within : u < versions_in dump.entries = omega (arith, c.commits-before-end.ensures, c.loop-before-test.true) in
-    subst (λ t. is_known t dump.entries ≡ true) (sym (c.maker-t.ensures ∙ ap (λ n. committer_of n dump.entries) next)) (maker-known dump.entries c.requires.rules.sessions u within)
+    subst (λ t. is_known t dump.entries ≡ true) (sym (c.maker-t.ensures ∙ ap (λ n. committer_of n dump.entries) next)) (maker-known dump.entries c.args.dump.now.answerable.sessions u within)
 
 pub returns-in-Some : goal.returns-in-Some
 returns-in-Some c =

@@ -17,23 +17,23 @@ pub push_writing-requires-clause-narrow : goal.push_writing-requires-clause-narr
 push_writing-requires-clause-narrow c =
     let rows = c.args.rows.now in
     let asked : Identity → Bool = λ (id : Identity). is_some (get identity_cmp rows.asked.now id) in
-    c.requires.narrow ∙ ap (λ table. f.narrowed (table_spans (dump_view c.args.dump.now).tables) table asked) (sym c.if-own-rows.false)
+    c.requires.narrow ∙ ap (λ table. f.narrowed (table_spans (dump_view c.args.dump.now).tables) table asked) (sym c.if-statement-rows.false)
 
-pub returns-then-own-rows : goal.returns-then-own-rows
-returns-then-own-rows c =
+pub returns-then-statement-rows : goal.returns-then-statement-rows
+returns-then-statement-rows c =
     let dump : Dump = dump_view c.args.dump.now in
-    let own = c.args.own in
+    let own = c.args.statement in
     let rows = c.args.rows.now in
     let old = c.args.lines.now.items in
     let asked : Identity → Bool = λ (id : Identity). is_some (get identity_cmp rows.asked.now id) in
     subst (λ (more : List RowLine). f.Pushes more old old)
-    (sym (other-changes dump rows.table asked c.args.version own.t own.k (statement_view own.stmt.now) own.table c.requires.own.target c.if-own-rows.true)) (pushes-none old)
+    (sym (other-changes dump rows.table asked c.args.version own.t own.k (statement_view own.stmt.now) own.table c.requires.logged.target c.if-statement-rows.true)) (pushes-none old)
 
 pub returns : goal.returns
 returns c =
     let dump : Dump = dump_view c.args.dump.now in
-    let own = c.args.own in
+    let own = c.args.statement in
     let rows = c.args.rows.now in
     let old = c.args.lines.now.items in
     let asked : Identity → Bool = λ (id : Identity). is_some (get identity_cmp rows.asked.now id) in
-    subst (λ table. OnOk c.push_writing.result (f.Pushes (f.statement_changes dump table asked c.args.version own.t own.k (Some (statement_view own.stmt.now))) old c.push_writing.new.lines.items)) c.if-own-rows.false c.push_writing.ensures
+    subst (λ table. OnOk c.push_writing.result (f.Pushes (f.statement_changes dump table asked c.args.version own.t own.k (Some (statement_view own.stmt.now))) old c.push_writing.new.lines.items)) c.if-statement-rows.false c.push_writing.ensures

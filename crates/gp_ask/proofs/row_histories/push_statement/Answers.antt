@@ -13,18 +13,18 @@ use Rattle.gp_ask.proofs.FewLines.{pushes-none}
 use Rattle.gp_ask.proofs.HistoryLines.{no-changes}
 use Rattle.gp_ask.proofs.row_histories.push_statement.Goals as goal
 
-pub push_own-requires-clause-own : goal.push_own-requires-clause-own
-push_own-requires-clause-own c = let found : l.IsFound c.args.t c.args.k (dump_view c.args.dump.now).entries (Some c.in-Some.own) = c.in-Some.ensures in found.1.1
+pub push_own-requires-clause-logged : goal.push_own-requires-clause-logged
+push_own-requires-clause-logged c = let found : l.IsFound c.args.t c.args.k (dump_view c.args.dump.now).entries (Some c.in-Some.statement) = c.in-Some.ensures in found.1.1
 
 pub push_own-requires-clause-runs : goal.push_own-requires-clause-runs
 push_own-requires-clause-runs c =
-    let found : l.IsFound c.args.t c.args.k (dump_view c.args.dump.now).entries (Some c.in-Some.own) = c.in-Some.ensures in
+    let found : l.IsFound c.args.t c.args.k (dump_view c.args.dump.now).entries (Some c.in-Some.statement) = c.in-Some.ensures in
     subst (λ t. l.stop_of (dump_view c.args.dump.now) t ≡ None) (sym found.0) c.requires.runs
 
 pub returns-in-Some : goal.returns-in-Some
 returns-in-Some c =
     let dump : Dump = dump_view c.args.dump.now in
-    let own = c.in-Some.own in
+    let own = c.in-Some.statement in
     let found : l.IsFound c.args.t c.args.k dump.entries (Some own) = c.in-Some.ensures in
     let rows = c.args.rows.now in
     let old = c.args.lines.now.items in

@@ -20,7 +20,7 @@ push_rows-requires c =
     let dump : Dump = dump_view c.args.dump.now in
     let own = c.args.changing.now.own in
     let statement = statement_view own.stmt.now in
-    let fits : statement_fits (tables_in dump.entries) statement ≡ true = subst (FitsIfSome (tables_in dump.entries)) c.requires.own.here (logged_fits (tables_in dump.entries) own.t own.k dump.entries c.requires.rules.statements) in
+    let fits : statement_fits (tables_in dump.entries) statement ≡ true = subst (FitsIfSome (tables_in dump.entries)) c.requires.logged.here (logged_fits (tables_in dump.entries) own.t own.k dump.entries c.args.dump.now.answerable.statements) in
     record { fits = sets-simple (tables_in dump.entries) statement fits }
 
 pub returns : goal.returns
@@ -30,5 +30,5 @@ returns c =
     let own = changing.own in
     let statement = statement_view own.stmt.now in
     let asked : Identity → Bool = λ (id : Identity). is_some (get identity_cmp changing.asked.now id) in
-    let same = ap (f.rows_changes asked changing.version own.t own.k statement own.table) c.deref.ensures.value ∙ c.in_ok-rows.ensures ∙ own-changes dump own.table asked changing.version own.t own.k statement c.requires.own.target in
+    let same = ap (f.rows_changes asked changing.version own.t own.k statement own.table) c.deref.ensures.value ∙ c.in_ok-rows.ensures ∙ own-changes dump own.table asked changing.version own.t own.k statement c.requires.logged.target in
     subst (λ (more : List RowLine). OnOk c.push_rows.result (f.Pushes more c.args.lines.now.items c.push_rows.new.lines.items)) same c.push_rows.ensures

@@ -23,11 +23,13 @@ use Rattle.gp_ask.proofs.row_histories.selected_history.Goals as goal
 pub asked_rows-requires : goal.asked_rows-requires
 asked_rows-requires c = simple-select (tables_in (dump_view c.args.dump.now).entries) (select_view c.args.select.now) c.requires.fits
 
-pub history_lines-requires-clause-narrow : goal.history_lines-requires-clause-narrow
-history_lines-requires-clause-narrow c =
+pub history_lines-requires : goal.history_lines-requires
+history_lines-requires c =
     let asked : Identity → Bool = λ (id : Identity). is_some (get identity_cmp c.in_ok-asked.asked id) in
-    ap spans_of c.deref.ensures.value ∙ c.in_ok-narrow.ensures
-    ∙ ap (λ (spans : ℕ → List Span). narrowed spans c.args.table asked) (ap spans_of c.as_slice.ensures ∙ dump-spans c.args.dump.now.versions)
+    record {
+      narrow = ap spans_of c.deref.ensures.value ∙ c.in_ok-narrow.ensures
+          ∙ ap (λ (spans : ℕ → List Span). narrowed spans c.args.table asked) (ap spans_of c.as_slice.ensures ∙ dump-spans c.args.dump.now.versions);
+    }
 
 pub returns-in-Ok : goal.returns-in-Ok
 returns-in-Ok c =

@@ -1,4 +1,4 @@
-use Rattle.std.proofs.Common.{Bool, Global, List, Vec, ap, map, sym, subst, ◌-◌, ◌≡◌}
+use Rattle.std.proofs.Common.{Bool, Global, Vec, ap, map, sym, subst, ◌-◌, ◌≡◌}
 use Rattle.std.proofs.lemmas.Result.{IfOk-weaker}
 use Rattle.std.specs.BTreeMap.{get}
 use Rattle.std.specs.Option.{is_some}
@@ -13,7 +13,6 @@ use Rattle.gp_log.specs.Parameters.{parameters}
 use Rattle.gp_reenact.specs.Looking.{looked_refusal}
 use Rattle.gp_reenact.specs.LookingForms.{system_row}
 use Rattle.gp_reenact.specs.Reenacting.{spans_of}
-use Rattle.gp_versions.specs.declared.span.Span.{Span}
 use Rattle.gp_ask.specs.Asking.{table_spans}
 use Rattle.gp_ask.specs.HistoryForms as f
 use Rattle.gp_ask.specs.Looked as l
@@ -25,7 +24,7 @@ looked-requires-clause-spans c =
     let dump : Dump = dump_view c.args.dump.now in
     let changing = c.args.changing.now in
     let asked : Identity → Bool = λ (id : Identity). is_some (get identity_cmp changing.asked.now id) in
-    subst (SpansFit (tables_in dump.entries)) (sym c.requires.narrow) (narrowed-fit asked (tables_in dump.entries) (table_spans dump.tables) changing.own.table c.requires.rules.spans)
+    subst (SpansFit (tables_in dump.entries)) (sym c.requires.narrow) (narrowed-fit asked (tables_in dump.entries) (table_spans dump.tables) changing.own.table c.args.dump.now.answerable.spans)
 
 pub returns-in-Ok : goal.returns-in-Ok
 returns-in-Ok c =
@@ -34,7 +33,7 @@ returns-in-Ok c =
     let own = changing.own in
     let statement = statement_view own.stmt.now in
     let asked : Identity → Bool = λ (id : Identity). is_some (get identity_cmp changing.asked.now id) in
-    narrow-told asked dump own.table changing.version own.t own.k statement c.requires.own.first (c.are_by_identity.ensures c.if-not-are_by_identity.false) c.requires.own.here c.requires.own.target
+    narrow-told asked dump own.table changing.version own.t own.k statement c.requires.logged.first (c.are_by_identity.ensures c.if-not-are_by_identity.false) c.requires.logged.here c.requires.logged.target
     (spans_of c.args.narrow.now) c.requires.narrow (looked_refusal parameters dump.entries (spans_of c.args.narrow.now) own.t (own.k - 1) statement) (λ (rows : Vec Row Global). rows.items) c.in-Ok.rows c.in-Ok.ensures
 
 pub returns-then-not-are_by_identity : goal.returns-then-not-are_by_identity

@@ -1,11 +1,9 @@
-use Rattle.std.proofs.Common.{◌≡◌, ℕ, Global, List, Vec, ap, subst, sym, ◌∙◌}
+use Rattle.std.proofs.Common.{◌≡◌, ℕ, Global, List, Vec, ap, ◌∙◌}
 use Rattle.std.proofs.lemmas.Result.{IfOk-weaker}
 use Rattle.gp_base.specs.declared.cell.Cell.{Cell}
 use Rattle.gp_base.specs.Order.{row_cmp, sorted_by}
 use Rattle.gp_algebra.specs.Views.{select_view}
 use Rattle.gp_log.specs.Logs.{log_view}
-use Rattle.gp_log.specs.LogFacts.{tables_in}
-use Rattle.gp_log.specs.LogFitting.{SpansFit}
 use Rattle.gp_log.specs.Parameters.{parameters}
 use Rattle.gp_reenact.specs.Looking.{saw_answer}
 use Rattle.gp_reenact.specs.Reenacting.{spans_of}
@@ -16,6 +14,7 @@ use Rattle.gp_ask.specs.declared.answered.Answered.{Answered}
 use Rattle.gp_ask.specs.declared.answered.Answered.TheVariants.{Rows}
 use Rattle.gp_ask.specs.Asking.{of_elements, table_spans}
 use Rattle.gp_ask.specs.Seeing.{dump_saw}
+use Rattle.gp_ask.proofs.ProvenanceLemmas.{sound-versions}
 use Rattle.gp_ask.proofs.ReenactedLemmas.{dump-spans, in-order, refused}
 use Rattle.gp_ask.proofs.seeing.selected_saw.Goals as goal
 
@@ -23,12 +22,10 @@ same-spans : (own versions : List Versions) → own ≡ versions → spans_of ow
 same-spans own versions is = ap spans_of is ∙ dump-spans versions
 
 pub saw-requires-clause-query : goal.saw-requires-clause-query
-saw-requires-clause-query c = record { fits = c.requires.fits; statements = c.requires.rules.statements }
+saw-requires-clause-query c = record { fits = c.requires.fits; statements = c.args.dump.now.answerable.statements }
 
 pub saw-requires-clause-spans : goal.saw-requires-clause-spans
-saw-requires-clause-spans c =
-    let dump = c.args.dump.now in
-    subst (λ (spans : ℕ → List Span). SpansFit (tables_in (log_view dump.log.entries)) spans) (sym (same-spans c.as_slice.result.now dump.versions c.as_slice.ensures)) c.requires.rules.spans
+saw-requires-clause-spans c = (sound-versions c.args.dump.now c.as_slice.result.now c.as_slice.ensures).spans
 
 pub returns-in-Ok : goal.returns-in-Ok
 returns-in-Ok c =

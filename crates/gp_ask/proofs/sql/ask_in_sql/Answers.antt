@@ -14,7 +14,7 @@ use Rattle.gp_ask.proofs.sql.ask_in_sql.Goals as goal
 pub returns-in-State : goal.returns-in-State
 returns-in-State c =
     let dump = dump_view c.args.dump.now in
-    let query = query_view c.args.query.now in
+    let query = query_view c.args.query.read.now in
     let given : Answered = sql_answer_to dump (y.ask (y.of_state (y.explain false) (point_view c.in-State.state)) query) in
     let asks : are_asked (how_view c.in-State.how) ≡ true = sym c.are_asked.ensures ∙ c.if-are_asked.true in
     subst (λ (subject : Subject). IfOk c.state_answer.result (λ (found : Answered). found ≡ in_sql (sql_answer_to dump) (y.ask (subject_view subject) query))) (sym c.in-State.is)

@@ -16,24 +16,24 @@ use Rattle.gp_ask.proofs.states.state_answer.Goals as goal
 
 pub returns-in-Rows-clause-answered : goal.returns-in-Rows-clause-answered
 returns-in-Rows-clause-answered c =
-    subst (λ (how : How). IfOk c.query_answer.result (λ answered. answered ≡ computed_answer (dump_view c.args.dump.now) (y.ask (y.of_state (how_view how) (point_view c.args.state)) (query_view c.args.query.now))))
+    subst (λ (how : How). IfOk c.query_answer.result (λ answered. answered ≡ computed_answer (dump_view c.args.dump.now) (y.ask (y.of_state (how_view how) (point_view c.args.state)) (query_view c.args.query.read.now))))
     (sym c.in-Rows.is) c.query_answer.ensures
 
 pub returns-in-Provenance-clause-answered : goal.returns-in-Provenance-clause-answered
 returns-in-Provenance-clause-answered c =
-    subst (λ (how : How). IfOk c.provenance_answer.result (λ answered. answered ≡ computed_answer (dump_view c.args.dump.now) (y.ask (y.of_state (how_view how) (point_view c.args.state)) (query_view c.args.query.now))))
+    subst (λ (how : How). IfOk c.provenance_answer.result (λ answered. answered ≡ computed_answer (dump_view c.args.dump.now) (y.ask (y.of_state (how_view how) (point_view c.args.state)) (query_view c.args.query.read.now))))
     (sym c.in-Provenance.is) c.provenance_answer.ensures.answered
 
 pub returns-in-Explain-clause-answered : goal.returns-in-Explain-clause-answered
 returns-in-Explain-clause-answered c =
-    subst (λ (how : How). IfOk c.program_answer.result (λ answered. answered ≡ computed_answer (dump_view c.args.dump.now) (y.ask (y.of_state (how_view how) (point_view c.args.state)) (query_view c.args.query.now))))
+    subst (λ (how : How). IfOk c.program_answer.result (λ answered. answered ≡ computed_answer (dump_view c.args.dump.now) (y.ask (y.of_state (how_view how) (point_view c.args.state)) (query_view c.args.query.read.now))))
     (sym c.in-Explain.is) c.program_answer.ensures.answered
 
 pub returns-in-Value-clause-answered : goal.returns-in-Value-clause-answered
 returns-in-Value-clause-answered c =
     let dump = dump_view c.args.dump.now in
     let point = point_view c.args.state in
-    let query = query_view c.args.query.now in
+    let query = query_view c.args.query.read.now in
     let name = c.in-Value.semiring in
     let other = c.in-Value.other in
     let own = map rule_view c.as_slice.result.now in
@@ -49,7 +49,7 @@ pub returns-in-Without-clause-answered : goal.returns-in-Without-clause-answered
 returns-in-Without-clause-answered c =
     let dump = dump_view c.args.dump.now in
     let point = point_view c.args.state in
-    let query = query_view c.args.query.now in
+    let query = query_view c.args.query.read.now in
     subst (λ (how : How). IfOk c.remaining_answer.result (λ answered. answered ≡ computed_answer dump (y.ask (y.of_state (how_view how) point) query)))
     (sym c.in-Without.is)
     (subst (λ (rules : List Rule). IfOk c.remaining_answer.result (λ answered. answered ≡ computed_answer dump (y.ask (y.of_state (y.without (map rule_view rules)) point) query)))
@@ -67,7 +67,6 @@ returns-in-Provenance-clause-kept c =
       polynomial = old.polynomial;
       witness = old.witness;
       without = old.without;
-      is_made = old.is_made;
     }
 
 pub returns-in-Without-clause-kept : goal.returns-in-Without-clause-kept
@@ -82,5 +81,4 @@ returns-in-Without-clause-kept c =
       polynomial = old.polynomial;
       witness = old.witness;
       without = c.remaining_answer.ensures.kept;
-      is_made = old.is_made;
     }

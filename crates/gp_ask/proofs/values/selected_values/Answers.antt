@@ -27,7 +27,6 @@ returns-in-Count-clause-kept c =
       polynomial = old.polynomial;
       witness = old.witness;
       without = old.without;
-      is_made = old.is_made;
     }
 
 pub returns-in-Bool-clause-answered : goal.returns-in-Bool-clause-answered
@@ -48,7 +47,6 @@ returns-in-Bool-clause-kept c =
       polynomial = old.polynomial;
       witness = old.witness;
       without = old.without;
-      is_made = old.is_made;
     }
 
 pub returns-in-Cost-clause-answered : goal.returns-in-Cost-clause-answered
@@ -69,7 +67,6 @@ returns-in-Cost-clause-kept c =
       polynomial = old.polynomial;
       witness = old.witness;
       without = old.without;
-      is_made = old.is_made;
     }
 
 pub returns-in-Level-clause-answered : goal.returns-in-Level-clause-answered
@@ -90,7 +87,6 @@ returns-in-Level-clause-kept c =
       polynomial = old.polynomial;
       witness = old.witness;
       without = old.without;
-      is_made = old.is_made;
     }
 
 pub returns-in-Poly-clause-answered : goal.returns-in-Poly-clause-answered
@@ -111,7 +107,6 @@ returns-in-Poly-clause-kept c =
       polynomial = c.values_in-in-Poly.ensures.kept;
       witness = old.witness;
       without = old.without;
-      is_made = old.is_made;
     }
 
 pub returns-in-Witness-clause-answered : goal.returns-in-Witness-clause-answered
@@ -132,5 +127,4 @@ returns-in-Witness-clause-kept c =
       polynomial = old.polynomial;
       witness = c.values_in-in-Witness.ensures.kept;
       without = old.without;
-      is_made = old.is_made;
     }

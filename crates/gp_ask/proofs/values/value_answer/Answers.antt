@@ -9,4 +9,4 @@ use Rattle.gp_ask.proofs.values.value_answer.Goals as goal
 pub selected_values-requires-clause-few : goal.selected_values-requires-clause-few
 selected_values-requires-clause-few c =
     let entries = (dump_view c.args.dump.now).entries in
-    checked-few (tables_in entries) (query_view c.args.query.now) (select_view c.in-Ok.select) (log_refusal entries (point_view c.args.state)) c.requires.few c.in-Ok.ensures.checked
+    checked-few (tables_in entries) (query_view c.args.query.read.now) (select_view c.in-Ok.select) (log_refusal entries (point_view c.args.state)) c.args.query.few c.in-Ok.ensures.checked
