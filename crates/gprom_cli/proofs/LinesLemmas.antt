@@ -13,12 +13,12 @@ use Rattle.gp_base.specs.declared.table.Table.{Table}
 use Rattle.gp_csv.specs.Answers.{csv_text}
 use Rattle.gp_grammar.specs.Syntax as y
 use Rattle.gp_ask.specs.declared.answered.Answered.{Answered}
-use Rattle.gp_ask.specs.declared.answered.Answered.TheVariants.{Rows, Listed, Values, Log, Versions, Program, Transactions, Changes, Conflicts, History, When, Diff, Causes, Checked, Cycle, Refused, Serial, Sheet, Undecided}
+use Rattle.gp_ask.specs.declared.answered.Answered.TheVariants.{Rows, Listed, Values, Program, Lines, Diff, Checked, Refused, Sheet}
 use Rattle.gp_ask.specs.declared.format.Format.{Format}
 use Rattle.gp_ask.specs.declared.format.Format.TheVariants.{Text, Csv, Named, Sql}
 use Rattle.gp_ask.specs.Formats.{exported_records, sql_answer_text, sql_refusal, text_in}
 use Rattle.gp_ask.specs.QuestionFiles.{line_answer_in, line_answer_text}
-use Rattle.gp_ask.specs.Texts.{answer_text, checked_text, listed_line, listed_text, provenance_text, signed_text, value_text}
+use Rattle.gp_ask.specs.Texts.{answer_text, checked_text, heading_word, listed_line, listed_text, provenance_text, signed_text, value_text}
 use Rattle.gprom_cli.specs.declared.summary.Summary.{Summary}
 use Rattle.gprom_cli.specs.Call.{IsWholeLines, rounds_line}
 use Rattle.gprom_cli.specs.Generated.{Pieces, pieces_line, pieces_lines}
@@ -93,19 +93,9 @@ text-ends number (Rows rows) = numbered-ends number (rows_text rows) (rows-ends 
 text-ends number (Sheet sheet) = numbered-ends number (rows_text sheet.rows) (rows-ends sheet.rows)
 text-ends number (Listed rows) = listed-ends number (codes "rows") (map provenance_text rows)
 text-ends number (Values rows) = listed-ends number (codes "rows") (map value_text rows)
-text-ends number (Log texts) = listed-ends number (codes "log") texts
-text-ends number (Versions texts) = listed-ends number (codes "versions") texts
+text-ends number (Lines heading texts) = listed-ends number (heading_word heading) texts
 text-ends number (Program texts) = listed-ends number (codes "program") texts
-text-ends number (Transactions texts) = listed-ends number (codes "transactions") texts
-text-ends number (Changes texts) = listed-ends number (codes "changes") texts
-text-ends number (Conflicts texts) = listed-ends number (codes "conflicts") texts
-text-ends number (History texts) = listed-ends number (codes "history") texts
-text-ends number (When texts) = listed-ends number (codes "when") texts
-text-ends number (Serial texts) = listed-ends number (codes "serial") texts
-text-ends number (Cycle texts) = listed-ends number (codes "cycle") texts
-text-ends number Undecided = listed-ends number (codes "undecided") []
 text-ends number (Diff rows) = listed-ends number (codes "diff") (map signed_text rows)
-text-ends number (Causes texts) = listed-ends number (codes "causes") texts
 text-ends number (Checked line) = numbered-ends number (checked_text line) (checked-ends line)
 text-ends number (Refused refusal) = numbered-ends number (refused_text refusal) (refused-ends refusal)
 
@@ -134,18 +124,8 @@ sql-ends number (Rows rows) = refusal-ends number E30
 sql-ends number (Sheet sheet) = refusal-ends number E30
 sql-ends number (Listed rows) = refusal-ends number E30
 sql-ends number (Values rows) = refusal-ends number E30
-sql-ends number (Log texts) = refusal-ends number E30
-sql-ends number (Versions texts) = refusal-ends number E30
-sql-ends number (Transactions texts) = refusal-ends number E30
-sql-ends number (Changes texts) = refusal-ends number E30
-sql-ends number (Conflicts texts) = refusal-ends number E30
-sql-ends number (History texts) = refusal-ends number E30
-sql-ends number (When texts) = refusal-ends number E30
-sql-ends number (Serial texts) = refusal-ends number E30
-sql-ends number (Cycle texts) = refusal-ends number E30
-sql-ends number Undecided = refusal-ends number E30
+sql-ends number (Lines heading texts) = refusal-ends number E30
 sql-ends number (Diff rows) = refusal-ends number E30
-sql-ends number (Causes texts) = refusal-ends number E30
 sql-ends number (Checked line) = refusal-ends number E30
 
 -- ---- each answer

@@ -54,7 +54,8 @@ use Rattle.gp_whatif.specs.Changed.{changed_log}
 use Rattle.gp_ask.specs.Questions.{AreQuestions, ReadQuestion}
 use Rattle.gp_ask.specs.SerialAnswers.{serial_answer}
 use Rattle.gp_ask.specs.SerialHistories.{RunsInCycle, RunsSerially}
-use Rattle.gp_ask.specs.declared.answered.Answered.TheVariants.{Cycle, Serial}
+use Rattle.gp_ask.specs.declared.answered.Answered.TheVariants.{Lines}
+use Rattle.gp_ask.specs.declared.answered.Heading.TheVariants.{Cycle, Serial}
 use Rattle.gprom_cli.specs.declared.load.TheConstants.{MAX_SHEET_LENGTH}
 use Rattle.gprom_cli.specs.declared.status.Status.{Status}
 use Rattle.gprom_cli.specs.declared.status.Status.TheVariants as exit
@@ -173,9 +174,9 @@ pub record DumpLaws : Type 0 where
   pub lost : (lines : List Line) → LosesToFirst (after monomials parameters start lines)
   pub remade : (dump : Dump) → IsDump dump → (changes : List y.LogChange) (entries : List Entry) → changed_log parameters dump.entries changes ≡ Ok entries
       → remaking_refusal entries ≡ None → IsIsolated (replayed_state monomials (tables_in entries) entries)
-  pub serial : (lines : List Line) (texts : List (List ℕ)) → serial_answer (dump_of (after unannotated parameters start lines)) ≡ Serial texts
+  pub serial : (lines : List Line) (texts : List (List ℕ)) → serial_answer (dump_of (after unannotated parameters start lines)) ≡ Lines Serial texts
       → RunsSerially (after unannotated parameters start lines) texts
-  pub cycle : (lines : List Line) (texts : List (List ℕ)) → serial_answer (dump_of (after unannotated parameters start lines)) ≡ Cycle texts
+  pub cycle : (lines : List Line) (texts : List (List ℕ)) → serial_answer (dump_of (after unannotated parameters start lines)) ≡ Lines Cycle texts
       → RunsInCycle (after unannotated parameters start lines) texts
 
 -- of a state of a script, by its lines
@@ -211,9 +212,9 @@ promised laws call has = record {
   isolated = λ lines. subst IsIsolated (sym (state-taken monomials lines start)) (laws.isolated (taken lines));
   lost = λ lines. subst LosesToFirst (sym (state-taken monomials lines start)) (laws.lost (taken lines));
   remade = λ bytes contents changes entries formed made none. laws.remade contents (dumps.whole-text bytes contents formed).rules changes entries made none;
-  serial = λ lines texts. subst (λ (state : State (Unit {0})). serial_answer (dump_of state) ≡ Serial texts → RunsSerially state texts) (sym (state-taken unannotated lines start))
+  serial = λ lines texts. subst (λ (state : State (Unit {0})). serial_answer (dump_of state) ≡ Lines Serial texts → RunsSerially state texts) (sym (state-taken unannotated lines start))
       (laws.serial (taken lines) texts);
-  cycle = λ lines texts. subst (λ (state : State (Unit {0})). serial_answer (dump_of state) ≡ Cycle texts → RunsInCycle state texts) (sym (state-taken unannotated lines start))
+  cycle = λ lines texts. subst (λ (state : State (Unit {0})). serial_answer (dump_of state) ≡ Lines Cycle texts → RunsInCycle state texts) (sym (state-taken unannotated lines start))
       (laws.cycle (taken lines) texts);
 }
 

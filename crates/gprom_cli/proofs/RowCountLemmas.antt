@@ -49,7 +49,9 @@ use Rattle.gp_history.specs.ValueAnswers.{all_elements, history_refusal, limited
 use Rattle.gp_history.specs.ValueForms.{value_answer}
 use Rattle.gp_history.specs.Agreement.{agree}
 use Rattle.gp_ask.specs.declared.answered.Answered.{Answered}
-use Rattle.gp_ask.specs.declared.answered.Answered.TheVariants.{Changes, Diff, History, Program, Refused, When}
+use Rattle.gp_ask.specs.declared.answered.Answered.TheVariants.{Diff, Lines, Program, Refused}
+use Rattle.gp_ask.specs.declared.answered.Heading.{Heading}
+use Rattle.gp_ask.specs.declared.answered.Heading.TheVariants.{Changes, History, When}
 use Rattle.gp_ask.specs.ChangeForms.{version_changes}
 use Rattle.gp_machine.specs.RowChanges.{tables_changes}
 use Rattle.gp_serial.specs.Serializing.{InCycle, InOrder, Serial, Undecided, runs_refusal, serial_of}
@@ -268,12 +270,12 @@ few-changed (Ok entries) (y.saw t k) query = few-remade entries (y.saw t k) quer
 -- ---- changes have no rows
 
 few-changes : (tables : List Table) (own : Option ℕ) (changes : Result (List Change) Refusal)
-    → HasFew (option_map_or (λ (place : ℕ). or_refused (λ (rows : List Change). Changes (change_texts (name_at place tables) rows)) changes) own (Changes []))
+    → HasFew (option_map_or (λ (place : ℕ). or_refused (λ (rows : List Change). Lines Changes (change_texts (name_at place tables) rows)) changes) own (Lines Changes []))
 few-changes tables None changes = omega arith
 few-changes tables (Some place) (Ok changes) = omega arith
 few-changes tables (Some place) (Err refusal) = omega arith
 
-few-any : (dump : Dump) (t k : ℕ) (statement : Option Statement) → HasFew (option_map_or (changes_over dump t k) statement (Changes []))
+few-any : (dump : Dump) (t k : ℕ) (statement : Option Statement) → HasFew (option_map_or (changes_over dump t k) statement (Lines Changes []))
 few-any dump t k None = omega arith
 few-any dump t k (Some statement) = few-changes (tables_in dump.entries) (target statement) _
 
@@ -303,39 +305,35 @@ few-serial tables entries Undecided = omega arith
 
 -- ---- what became of rows, and when they were there
 
-few-history : (texts : List (List ℕ)) (over : Bool) → HasFew (cond over (Refused E27) (History texts))
-few-history texts true = omega arith
-few-history texts false = omega arith
-
-few-when : (texts : List (List ℕ)) (over : Bool) → HasFew (cond over (Refused E27) (When texts))
-few-when texts true = omega arith
-few-when texts false = omega arith
+few-texts : (heading : Heading) (texts : List (List ℕ)) (over : Bool) → HasFew (cond over (Refused E27) (Lines heading texts))
+few-texts heading texts true = omega arith
+few-texts heading texts false = omega arith
 
 few-intervals : (own : List Interval) → HasFew (interval_lines own)
-few-intervals own = few-when (map interval_text (sorted_by interval_cmp own)) (nat_lt parameters.answer (length own))
+few-intervals own = few-texts When (map interval_text (sorted_by interval_cmp own)) (nat_lt parameters.answer (length own))
 
 few-rows-of : (dump : Dump) (place : Option ℕ) (name : List ℕ) (checked : Result Select Refusal)
     → HasFew (or_refused (λ (select : Select). option_map_or (λ (own : ℕ). dump_history dump own select) place (Refused (E04 name))) checked)
 few-rows-of dump place name (Err refusal) = omega arith
 few-rows-of dump None name (Ok select) = omega arith
-few-rows-of dump (Some place) name (Ok select) = few-unless (stop_upto dump (versions_in dump.entries)) _ (few-history _ _)
+few-rows-of dump (Some place) name (Ok select) = few-unless (stop_upto dump (versions_in dump.entries)) _ (few-texts History _ _)
 
 few-answer : (dump : Dump) (question : y.Question) → HasFew (computed_answer dump question)
-few-answer dump (y.log t) = few-log (is_known t dump.entries) _ _ refl refl
-few-answer dump (y.versions name) = few-versions name dump.tables (place_of name (tables_in dump.entries))
-few-answer dump y.transactions = omega arith
-few-answer dump (y.changes t k) = few-unless (changes_refusal t k dump.entries) _ (few-any dump t (k - 1) (statement_at t k dump.entries))
-few-answer dump (y.commit_changes t) = few-unless (transaction_refusal t dump.entries) _ (few-version dump (version_of t dump.entries))
-few-answer dump (y.conflicts t) = few-unless (unknown_refusal t dump.entries) _ (few-unless (stop_at dump t (statement_count t dump.entries)) _ (omega arith))
+few-answer dump (y.bare (y.log t)) = few-log (is_known t dump.entries) _ _ refl refl
+few-answer dump (y.bare (y.versions name)) = few-versions name dump.tables (place_of name (tables_in dump.entries))
+few-answer dump (y.bare y.transactions) = omega arith
+few-answer dump (y.bare (y.changes t k)) = few-unless (changes_refusal t k dump.entries) _ (few-any dump t (k - 1) (statement_at t k dump.entries))
+few-answer dump (y.bare (y.commit_changes t)) = few-unless (transaction_refusal t dump.entries) _ (few-version dump (version_of t dump.entries))
+few-answer dump (y.bare (y.conflicts t)) = few-unless (unknown_refusal t dump.entries) _ (few-unless (stop_at dump t (statement_count t dump.entries)) _ (omega arith))
 few-answer dump (y.history name cond) = few-rows-of dump (place_of name (tables_in dump.entries)) name (checked_query (tables_in dump.entries) (all_of name cond))
 few-answer dump (y.when query) =
     few-unless (refusal_upto (query_to dump) query (versions_in dump.entries)) _
     (few-intervals (intervals (λ version. result_unwrap_or (version_rows (query_to dump) query version) []) (versions_in dump.entries)))
-few-answer dump y.serial =
+few-answer dump (y.bare y.serial) =
     few-unless (runs_refusal parameters dump.entries (table_spans dump.tables) (versions_in dump.entries)) _
     (few-serial (tables_in dump.entries) dump.entries
     (serial_of (tables_in dump.entries) dump.entries (tables_changes 0 dump.tables) parameters (table_spans dump.tables)))
-few-answer dump y.check = omega arith
+few-answer dump (y.bare y.check) = omega arith
 few-answer dump (y.diff first second query) =
     few-unless (mixed_refusal (unmade_refusal dump) dump.entries first second query) _
     (few-diff (answers.rows_in (side_answer (history_of (are_mixed first second) dump) (what_if_answer dump.entries) first query))

@@ -29,7 +29,7 @@ use Rattle.gp_machine.specs.State.{start}
 use Rattle.gp_csv.specs.Titled.{AreReloadable}
 use Rattle.gp_load.specs.Reloading.{LoadsAgain}
 use Rattle.gp_replay.specs.Differences.{IsOfHistory, difference}
-use Rattle.gp_ask.specs.declared.answered.Answered.TheVariants.{Sheet}
+use Rattle.gp_ask.specs.declared.answered.Answered.TheVariants.{Lines, Sheet}
 use Rattle.gp_ask.specs.Answers.{answer_to, held_to}
 use Rattle.gp_ask.specs.declared.format.Format.{Format}
 use Rattle.gp_ask.specs.declared.format.Format.TheVariants.{Text, Named, Sql}
@@ -41,7 +41,7 @@ use Rattle.gp_ask.specs.Isolated.{IsIsolated, LosesToFirst}
 use Rattle.gp_ask.specs.Questions.{AreQuestions, ReadQuestion}
 use Rattle.gp_ask.specs.SerialAnswers.{serial_answer}
 use Rattle.gp_ask.specs.SerialHistories.{RunsInCycle, RunsSerially}
-use Rattle.gp_ask.specs.declared.answered.Answered.TheVariants.{Cycle, Serial}
+use Rattle.gp_ask.specs.declared.answered.Heading.TheVariants.{Cycle, Serial}
 use Rattle.gp_ask.specs.SqlAnswers.{AreStored, AsksLines}
 use Rattle.gp_whatif.specs.Changed.{changed_log}
 use Rattle.gprom_cli.specs.Call.{Call, HasOutcome, Shown, history_dump}
@@ -105,5 +105,5 @@ pub record Promises (call : Call) : Type 0 where
       → remaking_refusal entries ≡ None → IsIsolated (replayed_state monomials (tables_in entries) entries)
   -- What SERIAL answers about a history is so: an order is one in which its transactions, run one after another, are a history with the same changes of each
   -- statement, the same rows of each query and the same last version; and each line of a cycle is true of the history, each from one transaction to the next.
-  pub serial : (lines : List ReadLine) (texts : List (List ℕ)) → serial_answer (dump_of (last_state unannotated lines)) ≡ Serial texts → RunsSerially (last_state unannotated lines) texts
-  pub cycle : (lines : List ReadLine) (texts : List (List ℕ)) → serial_answer (dump_of (last_state unannotated lines)) ≡ Cycle texts → RunsInCycle (last_state unannotated lines) texts
+  pub serial : (lines : List ReadLine) (texts : List (List ℕ)) → serial_answer (dump_of (last_state unannotated lines)) ≡ Lines Serial texts → RunsSerially (last_state unannotated lines) texts
+  pub cycle : (lines : List ReadLine) (texts : List (List ℕ)) → serial_answer (dump_of (last_state unannotated lines)) ≡ Lines Cycle texts → RunsInCycle (last_state unannotated lines) texts

@@ -1,9 +1,7 @@
 //! `ask DUMP QUESTIONS`, `export DUMP QUESTIONS` and `sql DUMP QUESTIONS`: answers questions from a dump, as text, as CSV, also with the names of columns, or as SQL.
 
-ghost use Rattle.std.specs.Prelude.{◌≡◌, ◌≤◌, ℕ, List, [], ◌∷◌, ◌++◌, IfOk, length, Some, true};
+ghost use Rattle.std.specs.Prelude.{◌≡◌, ◌≤◌, ℕ, List, [], ◌∷◌, ◌++◌, IfOk, length, Some};
 ghost use Rattle.gp_io.specs.Events.{Event};
-ghost use Rattle.gp_check.specs.Valid.{tables_are_valid};
-ghost use Rattle.gp_log.specs.LogFacts.{tables_in};
 ghost use Rattle.gp_ask.specs.Keeping.{AreKept};
 ghost use Rattle.gp_ask.specs.Formats.{heading_in};
 ghost use Rattle.gp_ask.specs.Questions.{is_refused};
@@ -42,7 +40,6 @@ fn answered(
     kept: &mut KeptAnnotations,
 ) -> Result<LineAnswer, NoMemory>
     requires rules { IsDump (dump_view dump.now) }
-    requires valid { tables_are_valid (tables_in (dump_view dump.now).entries) ≡ true }
     requires kept { AreKept dump.now kept.old }
     ensures kept { AreKept dump.now kept.new }
     ensures text { IfOk result (λ answer. answer.text.items
@@ -78,7 +75,6 @@ fn write_line<K: Sink>(
     out: &mut K,
 ) -> Result<bool, SinkStop>
     requires rules { IsDump (dump_view dump.now) }
-    requires valid { tables_are_valid (tables_in (dump_view dump.now).entries) ≡ true }
     requires kept { AreKept dump.now kept.old }
     ensures kept { AreKept dump.now kept.new }
     ensures written { WritesAnswers
@@ -101,7 +97,6 @@ fn write_lines<K: Sink>(
     out: &mut K,
 ) -> Result<bool, SinkStop>
     requires rules { IsDump (dump_view dump.now) }
-    requires valid { tables_are_valid (tables_in (dump_view dump.now).entries) ≡ true }
     requires short { length questions.now ≤ MAX_SCRIPT_LENGTH }
     ensures { WritesAnswers
         (file_answers format (dump_view dump.now) questions.now)
@@ -127,7 +122,6 @@ fn write_answers<K: Sink>(
     out: &mut K,
 ) -> Status
     requires rules { IsDump (dump_view dump.now) }
-    requires valid { tables_are_valid (tables_in (dump_view dump.now).entries) ≡ true }
     requires short { length questions.now ≤ MAX_SCRIPT_LENGTH }
     ensures { WritesOutput
         (file_answers format (dump_view dump.now) questions.now)
@@ -183,7 +177,6 @@ fn write_file<K: Sink>(
     out: &mut K,
 ) -> Status
     requires rules { IsDump (dump_view dump.now) }
-    requires valid { tables_are_valid (tables_in (dump_view dump.now).entries) ≡ true }
     requires short { length questions.now ≤ MAX_SCRIPT_LENGTH }
     ensures { WritesOutput
         (file_text format (dump_view dump.now) questions.now)

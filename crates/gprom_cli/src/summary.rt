@@ -1,15 +1,13 @@
 //! `gen N`: a generated script is run, its dump is read back, the generated questions are answered from it, and the numbers of all that are
 //! written.
 
-ghost use Rattle.std.specs.Prelude.{◌≡◌, ◌≤◌, ◌++◌, ◌∷◌, [], ℕ, IfOk, OnOk, length, true};
+ghost use Rattle.std.specs.Prelude.{◌≡◌, ◌≤◌, ◌++◌, ◌∷◌, [], ℕ, IfOk, OnOk, length};
 ghost use Rattle.std.specs.Fmt.{decimal};
 ghost use Rattle.gp_base.specs.Annotated.{unannotated};
-ghost use Rattle.gp_check.specs.Valid.{tables_are_valid};
 ghost use Rattle.gp_dump.specs.Dumps.{dump_of, spans_in};
 ghost use Rattle.gp_dump.specs.WholeDumps.{IsDump};
 ghost use Rattle.gp_dump.specs.Views.{dump_view};
 ghost use Rattle.gp_log.specs.Contents.{entries};
-ghost use Rattle.gp_log.specs.LogFacts.{tables_in};
 ghost use Rattle.gp_machine.specs.Entries.{fate_of, transactions_in};
 ghost use Rattle.gp_ask.specs.Computed.{computed_answer};
 ghost use Rattle.gp_script.specs.Scripts.{final_state};
@@ -138,7 +136,6 @@ fn row_count(answer: &Answered) -> usize
 /// The number of rows of the answer to a line.
 fn line_rows(alloc: Global, dump: &Dump, line: &[u8]) -> Result<u64, NoMemory>
     requires rules { IsDump (dump_view dump.now) }
-    requires valid { tables_are_valid (tables_in (dump_view dump.now).entries) ≡ true }
     ensures { IfOk result (λ rows. (number : ℕ)
         → rows ≡ line_rows (computed_answer (dump_view dump.now)) (number, line.now)) }
 {
@@ -149,7 +146,6 @@ fn line_rows(alloc: Global, dump: &Dump, line: &[u8]) -> Result<u64, NoMemory>
 /// The number of rows of all answers to a file of questions.
 fn count_rows(alloc: Global, dump: &Dump, questions: &[u8]) -> Result<u64, NoMemory>
     requires rules { IsDump (dump_view dump.now) }
-    requires valid { tables_are_valid (tables_in (dump_view dump.now).entries) ≡ true }
     requires short { length questions.now ≤ MAX_SCRIPT_LENGTH }
     ensures { IfOk result (λ rows. rows ≡ rows_in (computed_answer (dump_view dump.now)) questions.now) }
 {
@@ -166,8 +162,6 @@ fn read_back(alloc: Global, script: &[u8]) -> Result<Dump, NoMemory>
     requires { length script.now ≤ MAX_SCRIPT_LENGTH }
     ensures dump { IfOk result (λ dump. dump_view dump ≡ dump_of (final_state unannotated script.now)) }
     ensures rules { IfOk result (λ dump. IsDump (dump_view dump)) }
-    ensures valid { IfOk result (λ dump.
-        tables_are_valid (tables_in (dump_view dump).entries) ≡ true) }
 {
     // The dump of a script is well formed by this law. The call does nothing.
     scripts_have_well_formed_dumps();
