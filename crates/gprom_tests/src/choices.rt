@@ -2,6 +2,7 @@
 //! program does not show it.
 
 use crate::cases::{inspect, pair, with_made};
+use crate::provenance::id_of;
 use gp_algebra::{Select, Stmt, select_is_simple};
 use gp_base::{Catalog, NoMemory, Row, RowId, Sequence, Stop, Stored, write_id, write_row};
 use gp_check::check;
@@ -10,38 +11,23 @@ use gp_syntax::{Command, read_command};
 use std::alloc::Global;
 use std::test::Fail;
 
-/// The number of the row at this place, from 1.
-fn number_at(place: usize) -> u32 {
-    match u32::try_from(place) {
-        Ok(place) => place.saturating_add(1),
-        Err(_) => u32::MAX,
-    }
-}
-
-/// A copy of the row.
 fn copy_of(row: &Row) -> Result<Row, NoMemory> {
     Ok(row.clone()?)
 }
 
-/// The identity 1.1.n.
-fn id_of(alloc: Global, n: u32) -> Result<RowId, NoMemory> {
-    match RowId::new(1, 1, n, Vec::new(alloc)) {
-        Some(id) => Ok(id),
-        None => Err(NoMemory),
-    }
-}
-
 /// The row with the identity 1.1.n.
 fn stored(alloc: Global, n: u32, row: &Row) -> Result<Stored, NoMemory> {
-    let (id, row) = pair(id_of(alloc, n), copy_of(row))?;
+    let (id, row) = pair(id_of(alloc, (1, 1, n), &[]), copy_of(row))?;
     Ok(Stored { id, row })
 }
 
 /// The rows with the identities 1.1.1, 1.1.2 and so on.
 fn stored_rows(alloc: Global, rows: &[Row]) -> Result<Sequence<Stored>, NoMemory> {
     let mut all = Sequence::new(alloc);
-    for (place, row) in rows.iter().enumerate() {
-        all.push(stored(alloc, number_at(place), row)?)?;
+    let mut n: u32 = 0;
+    for row in rows {
+        n = n.saturating_add(1);
+        all.push(stored(alloc, n, row)?)?;
     }
     Ok(all)
 }
@@ -78,23 +64,13 @@ fn rows_of_command(
     command: &Option<Command>,
 ) -> Result<Sequence<Stored>, NoMemory> {
     match command {
-        Some(command) => match command {
-            Command::Insert { .. } => {
-                inspect(check(alloc, catalog, command), |stmt| {
-                    rows_of_stmt(alloc, stmt)
-                })
-            }
-            _ => Ok(Sequence::new(alloc)),
-        },
-        None => Ok(Sequence::new(alloc)),
+        Some(command @ Command::Insert { .. }) => {
+            inspect(check(alloc, catalog, command), |stmt| {
+                rows_of_stmt(alloc, stmt)
+            })
+        }
+        _ => Ok(Sequence::new(alloc)),
     }
-}
-
-/// One table with these rows.
-fn views_of(alloc: Global, rows: Sequence<Stored>) -> Result<Views, NoMemory> {
-    let mut tables = Sequence::new(alloc);
-    tables.push(rows)?;
-    Ok(Views { tables })
 }
 
 /// One table with the rows of an INSERT with VALUES.
@@ -102,7 +78,9 @@ fn inserted(alloc: Global, catalog: &Catalog, insert: &str) -> Result<Views, NoM
     let rows = inspect(command_of(alloc, insert.as_bytes()), |command| {
         rows_of_command(alloc, catalog, command)
     })?;
-    views_of(alloc, rows)
+    let mut tables = Sequence::new(alloc);
+    tables.push(rows)?;
+    Ok(Views { tables })
 }
 
 /// One table, made by a CREATE TABLE, with the rows of an INSERT.
@@ -140,21 +118,6 @@ enum Expected<'a> {
     TooMany,
 }
 
-/// Writes the rows, each with a semicolon.
-fn write_rows(alloc: Global, answer: &[Chosen], out: &mut Vec<u8>) -> Result<(), NoMemory> {
-    for one in answer {
-        write_row(alloc, &one.row, out)?;
-        out.push(b';')?;
-    }
-    Ok(())
-}
-
-/// Whether these are the texts of the rows, each with a semicolon.
-fn have_texts(alloc: Global, answer: &[Chosen], texts: &str) -> bool {
-    let mut out = Vec::new(alloc);
-    write_rows(alloc, answer, &mut out).is_ok() && out.as_slice() == texts.as_bytes()
-}
-
 /// Writes the identity that an INSERT gives the row.
 fn write_new_id(alloc: Global, one: &Chosen, out: &mut Vec<u8>) -> Result<(), NoMemory> {
     let sources = one.ids.clone()?;
@@ -164,22 +127,30 @@ fn write_new_id(alloc: Global, one: &Chosen, out: &mut Vec<u8>) -> Result<(), No
     }
 }
 
-/// Writes the identities that an INSERT gives the rows, each with a semicolon.
-fn write_new_ids(alloc: Global, answer: &[Chosen], out: &mut Vec<u8>) -> Result<(), NoMemory> {
+/// Writes the rows, or else the identities that an INSERT gives them, each with a semicolon.
+fn write_all(
+    alloc: Global,
+    answer: &[Chosen],
+    are_rows: bool,
+    out: &mut Vec<u8>,
+) -> Result<(), NoMemory> {
     for one in answer {
-        write_new_id(alloc, one, out)?;
+        if are_rows {
+            write_row(alloc, &one.row, out)?;
+        } else {
+            write_new_id(alloc, one, out)?;
+        }
         out.push(b';')?;
     }
     Ok(())
 }
 
-/// Whether these are the texts of the identities.
-fn have_new_ids(alloc: Global, answer: &[Chosen], texts: &str) -> bool {
+/// Whether these are the texts of the rows, or else of the identities.
+fn have_texts(alloc: Global, answer: &[Chosen], are_rows: bool, texts: &str) -> bool {
     let mut out = Vec::new(alloc);
-    write_new_ids(alloc, answer, &mut out).is_ok() && out.as_slice() == texts.as_bytes()
+    write_all(alloc, answer, are_rows, &mut out).is_ok() && out.as_slice() == texts.as_bytes()
 }
 
-/// Whether it is the expected answer.
 fn is_expected(
     alloc: Global,
     answer: &Result<Vec<Chosen>, ChooseStop>,
@@ -187,8 +158,8 @@ fn is_expected(
 ) -> bool {
     match answer {
         Ok(answer) => match expected {
-            Expected::Rows(texts) => have_texts(alloc, answer, texts),
-            Expected::Identities(texts) => have_new_ids(alloc, answer, texts),
+            Expected::Rows(texts) => have_texts(alloc, answer, true, texts),
+            Expected::Identities(texts) => have_texts(alloc, answer, false, texts),
             Expected::Count(count) => answer.len() == count,
             Expected::TooMany => false,
         },
@@ -205,12 +176,10 @@ fn select_answers(
     most: usize,
     expected: Expected<'_>,
 ) -> bool {
-    if !select_is_simple(select) {
-        return false;
-    }
-    inspect(choose(alloc, select, views, most), |answer| {
-        is_expected(alloc, answer, expected)
-    })
+    select_is_simple(select)
+        && inspect(choose(alloc, select, views, most), |answer| {
+            is_expected(alloc, answer, expected)
+        })
 }
 
 /// Whether it is a query with the expected answer.
@@ -236,15 +205,12 @@ fn command_answers(
     expected: Expected<'_>,
 ) -> bool {
     match command {
-        Some(command) => match command {
-            Command::Select { .. } => {
-                inspect(check(alloc, &table.catalog, command), |stmt| {
-                    stmt_answers(alloc, &table.views, stmt, most, expected)
-                })
-            }
-            _ => false,
-        },
-        None => false,
+        Some(command @ Command::Select { .. }) => {
+            inspect(check(alloc, &table.catalog, command), |stmt| {
+                stmt_answers(alloc, &table.views, stmt, most, expected)
+            })
+        }
+        _ => false,
     }
 }
 
@@ -337,12 +303,10 @@ fn first_wrong(
     table: &OneTable,
     queries: &[(&'static str, Expected<'static>)],
 ) -> Option<&'static str> {
-    for (query, expected) in queries {
-        if !answers(alloc, table, query.as_bytes(), 100, *expected) {
-            return Some(query);
-        }
-    }
-    None
+    queries
+        .iter()
+        .find(|case| !answers(alloc, table, case.0.as_bytes(), 100, case.1))
+        .map(|case| case.0)
 }
 
 #[test]

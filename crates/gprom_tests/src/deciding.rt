@@ -1,8 +1,5 @@
 //! Questions about rows, decided by a backend alone.
 
-ghost use Rattle.std.specs.Prelude.{◌≡◌, true};
-ghost use Rattle.gp_check.specs.Valid.{tables_are_valid};
-ghost use Rattle.gp_log.specs.LogFacts.{tables_in};
 ghost use Rattle.gp_dump.specs.WholeDumps.{IsDump};
 ghost use Rattle.gp_dump.specs.Views.{dump_view};
 
@@ -17,7 +14,6 @@ use std::test::Fail;
 /// Whether the fixed backend gives this answer to a line.
 fn has_answer(alloc: Global, dump: &Dump, line: &[u8], answer: &[u8]) -> Result<bool, NoMemory>
     requires rules { IsDump (dump_view dump.now) }
-    requires valid { tables_are_valid (tables_in (dump_view dump.now).entries) ≡ true }
 {
     let mut out = Vec::new(alloc);
     write_answer(alloc, 1, fixed_answer(alloc, dump, line)?, &mut out)?;

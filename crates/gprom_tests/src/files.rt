@@ -33,18 +33,12 @@ fn two_files(alloc: Global) -> Result<Vec<NamedFile>, AllocError> {
 
 /// Whether a read through the trait gives these bytes.
 fn gives<H: Shelf>(shelf: &mut H, name: &str, most: usize, bytes: &[u8]) -> bool {
-    match shelf.read(name, most) {
-        Ok(read) => read.as_slice() == bytes,
-        Err(_) => false,
-    }
+    matches!(shelf.read(name, most), Ok(read) if read.as_slice() == bytes)
 }
 
 /// Whether a read through the trait stops for this reason.
 fn stops<H: Shelf>(shelf: &mut H, name: &str, stop: ShelfStop) -> bool {
-    match shelf.read(name, 100) {
-        Ok(_) => false,
-        Err(other) => other == stop,
-    }
+    matches!(shelf.read(name, 100), Err(other) if other == stop)
 }
 
 #[test]

@@ -129,6 +129,12 @@ const FIVE_TIMES: &[u8] = b"PRODUCT(VALUES((1), (2), (3), (4), (5)), ";
 
 const NOTHING: &[u8] = b"FILTER(VALUES((1)), (#1 = 2))";
 
+/// A last query without rows.
+const NO_QUERY: &[u8] = b"\nQUERY FILTER(VALUES((1)), (#1 = 2))\n";
+
+/// An INSERT into a table without rows, up to what it appends.
+const TO_NOTHING: &[u8] = b"STEP 3 r := UNION(FILTER(VALUES((1)), (#1 = 2)), ";
+
 const ONE: &[u8] = b"VALUES((1))";
 
 /// Sources of sixty nodes, with a comma behind.
@@ -154,9 +160,8 @@ const ENDS: &[(Text, Outcome)] = &[
             TEN_THOUSAND,
             b", ",
             NOTHING,
-            b")\nQUERY ",
-            NOTHING,
-            b"\n",
+            b")",
+            NO_QUERY,
         ],
         Outcome::Ends(End::Count(0), End::Count(0)),
     ),
@@ -166,30 +171,21 @@ const ENDS: &[(Text, Outcome)] = &[
             TEN_THOUSAND,
             b", ",
             ONE,
-            b")\nQUERY ",
-            NOTHING,
-            b"\n",
+            b")",
+            NO_QUERY,
         ],
         Outcome::Ends(End::Rows(3), End::Rows(3)),
     ),
     // Only an INSERT step is limited.
     (
-        &[
-            b"STEP 3 r := ",
-            FIVE_TIMES,
-            TEN_THOUSAND,
-            b")\nQUERY ",
-            NOTHING,
-            b"\n",
-        ],
+        &[b"STEP 3 r := ", FIVE_TIMES, TEN_THOUSAND, b")", NO_QUERY],
         Outcome::Ends(End::Count(0), End::Count(0)),
     ),
     // A new identity of 64 nodes, whose only source has 63, and one that would have 65.
     (
         &[
-            b"STEP 3 r := UNION(",
-            NOTHING,
-            b", PROJECT(VALUES(({1.1.1(",
+            TO_NOTHING,
+            b"PROJECT(VALUES(({1.1.1(",
             SIXTY_NODES,
             b"1.1.1,1.1.1)})), ID(2, 1, 1, #1)))\nQUERY STEP(3)\n",
         ],
@@ -197,22 +193,19 @@ const ENDS: &[(Text, Outcome)] = &[
     ),
     (
         &[
-            b"STEP 3 r := UNION(",
-            NOTHING,
-            b", PROJECT(VALUES(({1.1.1(",
+            TO_NOTHING,
+            b"PROJECT(VALUES(({1.1.1(",
             SIXTY_NODES,
-            b"1.1.1,1.1.1,1.1.1)})), ID(2, 1, 1, #1)))\nQUERY ",
-            NOTHING,
-            b"\n",
+            b"1.1.1,1.1.1,1.1.1)})), ID(2, 1, 1, #1)))",
+            NO_QUERY,
         ],
         Outcome::Ends(End::Ancestry(3), End::Ancestry(3)),
     ),
     // A new identity of 64 nodes, whose 63 sources have one each, and one that would have 65.
     (
         &[
-            b"STEP 3 r := UNION(",
-            NOTHING,
-            b", PROJECT(VALUES(({1.1.1})), ID(2, 1, 1, ",
+            TO_NOTHING,
+            b"PROJECT(VALUES(({1.1.1})), ID(2, 1, 1, ",
             SIXTY_COLUMNS,
             b"#1, #1, #1)))\nQUERY STEP(3)\n",
         ],
@@ -220,13 +213,11 @@ const ENDS: &[(Text, Outcome)] = &[
     ),
     (
         &[
-            b"STEP 3 r := UNION(",
-            NOTHING,
-            b", PROJECT(VALUES(({1.1.1})), ID(2, 1, 1, ",
+            TO_NOTHING,
+            b"PROJECT(VALUES(({1.1.1})), ID(2, 1, 1, ",
             SIXTY_COLUMNS,
-            b"#1, #1, #1, #1)))\nQUERY ",
-            NOTHING,
-            b"\n",
+            b"#1, #1, #1, #1)))",
+            NO_QUERY,
         ],
         Outcome::Ends(End::Ancestry(3), End::Ancestry(3)),
     ),
@@ -237,26 +228,23 @@ const ENDS: &[(Text, Outcome)] = &[
             SIXTY_NODES,
             b"1.1.1,1.1.1,1.1.1)})), ID(2, 1, 1, #1)), ",
             TEN_THOUSAND,
-            b")\nQUERY ",
-            NOTHING,
-            b"\n",
+            b")",
+            NO_QUERY,
         ],
         Outcome::Ends(End::Rows(3), End::Rows(3)),
     ),
     // The first step that stops decides, whatever the later ones do.
     (
         &[
-            b"STEP 3 r := UNION(",
-            NOTHING,
-            b", PROJECT(VALUES(({1.1.1(",
+            TO_NOTHING,
+            b"PROJECT(VALUES(({1.1.1(",
             SIXTY_NODES,
             b"1.1.1,1.1.1,1.1.1)})), ID(2, 1, 1, #1)))\nSTEP 4 r := UNION(",
             TEN_THOUSAND,
             b", ",
             ONE,
-            b")\nQUERY ",
-            NOTHING,
-            b"\n",
+            b")",
+            NO_QUERY,
         ],
         Outcome::Ends(End::Ancestry(3), End::Ancestry(3)),
     ),
@@ -336,7 +324,6 @@ const SCANS: &[(Text, Outcome)] = &[(
     ]),
 )];
 
-/// The program of a text.
 fn program_of(alloc: Global, catalog: &Catalog, text: Text) -> Result<PProgram, PlanStop> {
     let bytes = text_of_pieces(alloc, text)?;
     read(alloc, &bytes, catalog)
@@ -348,14 +335,8 @@ fn rows_of(alloc: Global, program: &Result<PProgram, PlanStop>) -> Result<Vec<Ro
         scans: Sequence::new(alloc),
     };
     match program {
-        Ok(program) => {
-            if is_well_built(program) {
-                run(alloc, program, &env)
-            } else {
-                Err(ExecStop::NoMemory)
-            }
-        }
-        Err(_) => Err(ExecStop::NoMemory),
+        Ok(program) if is_well_built(program) => run(alloc, program, &env),
+        _ => Err(ExecStop::NoMemory),
     }
 }
 
@@ -401,15 +382,6 @@ fn end_of(outcome: Result<Vec<Row>, ExecStop>) -> End {
     }
 }
 
-/// Whether the program scans this.
-fn scans_are(alloc: Global, program: &PProgram, expected: &[ScanAt]) -> bool {
-    match scans(alloc, program) {
-        Ok(found) => found.as_slice() == expected,
-        Err(_) => false,
-    }
-}
-
-/// Whether the program has the expected outcome.
 fn is_outcome(alloc: Global, env: &Env, program: &PProgram, expected: Outcome) -> bool {
     match expected {
         Outcome::Rows(texts) => {
@@ -421,15 +393,16 @@ fn is_outcome(alloc: Global, env: &Env, program: &PProgram, expected: Outcome) -
                 && end_of(run_table(alloc, program, env, MAX_TABLE_ROWS)) == table
         }
         Outcome::Built(built) => is_well_built(program) == built,
-        Outcome::Scans(expected) => scans_are(alloc, program, expected),
+        Outcome::Scans(expected) => {
+            matches!(scans(alloc, program), Ok(found) if found.as_slice() == expected)
+        }
     }
 }
 
 /// Whether the text is that of a program with the expected outcome.
 fn has_outcome(alloc: Global, catalog: &Catalog, env: &Env, text: Text, expected: Outcome) -> bool {
-    inspect(program_of(alloc, catalog, text), |program| match program {
-        Ok(program) => is_outcome(alloc, env, program, expected),
-        Err(_) => false,
+    inspect(program_of(alloc, catalog, text), |program| {
+        matches!(program, Ok(program) if is_outcome(alloc, env, program, expected))
     })
 }
 

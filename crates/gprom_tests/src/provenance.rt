@@ -12,10 +12,7 @@ pub(crate) type Numbers = (u32, u32, u32);
 /// The identity of these numbers and sources, which have few enough nodes.
 pub(crate) fn id_with(numbers: Numbers, sources: Vec<RowId>) -> Result<RowId, NoMemory> {
     let (t, k, n) = numbers;
-    match RowId::new(t, k, n, sources) {
-        Some(id) => Ok(id),
-        None => Err(NoMemory),
-    }
+    RowId::new(t, k, n, sources).ok_or(NoMemory)
 }
 
 /// The identities of these numbers, which have no sources.

@@ -6,7 +6,6 @@ use gp_script::{replies_have_no_annotations, write_reply};
 use std::alloc::Global;
 use std::test::Fail;
 
-/// A row of one cell.
 fn row_with(alloc: Global, cell: Cell) -> Result<Row, NoMemory> {
     let mut row = Row::new(alloc);
     row.push(cell)?;

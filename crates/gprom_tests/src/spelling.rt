@@ -59,18 +59,13 @@ pub(crate) fn catalog(alloc: Global) -> Result<Catalog, NoMemory> {
     Ok(catalog)
 }
 
-/// Whether a program is written as this text.
 fn is_written(
     alloc: Global,
     catalog: &Catalog,
     program: &PProgram,
     text: &[u8],
 ) -> Result<bool, NoMemory> {
-    if is_spellable(program, catalog) {
-        Ok(write(alloc, program, catalog)?.as_slice() == text)
-    } else {
-        Ok(false)
-    }
+    Ok(is_spellable(program, catalog) && write(alloc, program, catalog)?.as_slice() == text)
 }
 
 /// Whether a text is that of a program, which is written as the same text.

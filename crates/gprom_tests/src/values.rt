@@ -26,7 +26,6 @@ fn cell_of(alloc: Global, given: Given) -> Result<Cell, NoMemory> {
     }
 }
 
-/// The row of these cells.
 pub(crate) fn row_of(alloc: Global, cells: &[Given]) -> Result<Row, NoMemory> {
     let mut row = Row::new(alloc);
     for given in cells {
@@ -108,10 +107,7 @@ fn rows_are_sorted(rt: HostRuntime) -> Result<(), Fail> {
 
 /// Whether a copy of the row is equal to it.
 fn is_copied(row: &Row) -> bool {
-    match row.clone() {
-        Ok(copy) => copy == *row && copy.cells().len() == 3,
-        Err(_) => false,
-    }
+    matches!(row.clone(), Ok(copy) if copy == *row && copy.cells().len() == 3)
 }
 
 #[test]
@@ -134,7 +130,6 @@ fn sequences_are_compared(rt: HostRuntime) -> Result<(), Fail> {
     Ok(())
 }
 
-/// Whether the cell has this text.
 fn is_written(alloc: Global, cell: &Cell, text: &str) -> bool {
     let mut out = Vec::new(alloc);
     CellFormat.write(alloc, cell, &mut out).is_ok() && out.as_slice() == text.as_bytes()
@@ -142,10 +137,7 @@ fn is_written(alloc: Global, cell: &Cell, text: &str) -> bool {
 
 /// Whether the cell was made and has this text.
 fn has_text(alloc: Global, cell: Result<Cell, NoMemory>, text: &str) -> bool {
-    match &cell {
-        Ok(cell) => is_written(alloc, cell, text),
-        Err(_) => false,
-    }
+    matches!(&cell, Ok(cell) if is_written(alloc, cell, text))
 }
 
 #[test]
@@ -200,13 +192,7 @@ const WORDS: &[(&[u8], bool)] = &[
 
 /// Whether the name of the word has its bytes.
 fn keeps_bytes(alloc: Global, word: &[u8]) -> bool {
-    if !is_name(word) {
-        return true;
-    }
-    match Name::new(alloc, word) {
-        Ok(name) => name.as_bytes() == word,
-        Err(_) => false,
-    }
+    !is_name(word) || matches!(Name::new(alloc, word), Ok(name) if name.as_bytes() == word)
 }
 
 #[test]

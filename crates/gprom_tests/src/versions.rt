@@ -88,7 +88,6 @@ fn write_version(
     Ok(())
 }
 
-/// Whether the rows of a version have this text.
 fn has_rows(alloc: Global, table: &VersionTable, v: u32, text: &str) -> bool {
     let mut out = Vec::new(alloc);
     write_version(alloc, table, v, &mut out).is_ok() && out.as_slice() == text.as_bytes()
@@ -128,10 +127,7 @@ const LATER_WRITES: &[(u32, u32, Option<u32>)] = &[
 
 /// Whether this version wrote the row of the identity next.
 fn is_later(table: &VersionTable, id: Result<RowId, NoMemory>, v: u32, later: Option<u32>) -> bool {
-    match &id {
-        Ok(id) => table.written_after(id, v) == later,
-        Err(_) => false,
-    }
+    matches!(&id, Ok(id) if table.written_after(id, v) == later)
 }
 
 #[test]
@@ -244,12 +240,7 @@ const SEVEN_VERSIONS: &[(Shape, u32, Option<u32>)] = &[
 
 /// Whether each of these rows is written next by its version.
 fn are_later(alloc: Global, table: &VersionTable, all: &[(Shape, u32, Option<u32>)]) -> bool {
-    for (shape, v, later) in all {
-        if !is_later(table, shaped_id(alloc, *shape), *v, *later) {
-            return false;
-        }
-    }
-    true
+    all.iter().all(|case| is_later(table, shaped_id(alloc, case.0), case.1, case.2))
 }
 
 #[test]
@@ -307,10 +298,7 @@ fn writes_of(alloc: Global, all: &[(u32, Option<i64>)]) -> Result<Writes, NoMemo
 
 /// Whether there is a write of the identity, or none.
 fn has(writes: &Writes, id: Result<RowId, NoMemory>, written: bool) -> bool {
-    match &id {
-        Ok(id) => writes.has(id) == written,
-        Err(_) => false,
-    }
+    matches!(&id, Ok(id) if writes.has(id) == written)
 }
 
 #[test]

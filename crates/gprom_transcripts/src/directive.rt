@@ -95,7 +95,6 @@ impl DirectiveLine<'_> {
     }
 }
 
-/// The directive of a line, if it is one.
 pub(crate) fn directive_of(line: &str) -> Option<Directive<'_>> {
     let (word, rest) = line.split_once(' ').unwrap_or((line, ""));
     match word {
@@ -124,11 +123,7 @@ fn directive_in_words<'a>(word: &str, rest: &'a str) -> Option<Directive<'a>> {
 
 /// A name, which has no blanks.
 fn name(text: &str) -> Option<&str> {
-    if text.is_empty() || text.as_bytes().contains(&b' ') {
-        None
-    } else {
-        Some(text)
-    }
+    (!text.is_empty() && !text.as_bytes().contains(&b' ')).then_some(text)
 }
 
 fn given(rest: &str) -> Option<Directive<'_>> {
@@ -176,11 +171,7 @@ fn shown_by(words: &str) -> Option<Shown<'_>> {
 /// The number of a call that can be counted.
 fn call_number(text: &str) -> Option<u16> {
     let call = text.parse::<u16>().ok()?;
-    if 0 < call && call < LAST_CALL {
-        Some(call)
-    } else {
-        None
-    }
+    (0 < call && call < LAST_CALL).then_some(call)
 }
 
 fn fail(rest: &str) -> Option<Directive<'_>> {
@@ -195,8 +186,5 @@ fn fail(rest: &str) -> Option<Directive<'_>> {
 
 fn repeat(rest: &str) -> Option<Directive<'_>> {
     let (first, last) = rest.split_once(' ')?;
-    match (first.parse::<u64>(), last.parse::<u64>()) {
-        (Ok(first), Ok(last)) => Some(Directive::Repeat(first, last)),
-        _ => None,
-    }
+    Some(Directive::Repeat(first.parse::<u64>().ok()?, last.parse::<u64>().ok()?))
 }

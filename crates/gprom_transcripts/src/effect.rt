@@ -5,12 +5,7 @@ use crate::report::Failure;
 
 /// Whether a call with these words names this file.
 fn names(words: &str, file: &str) -> bool {
-    for word in words.split(' ') {
-        if word == file {
-            return true;
-        }
-    }
-    false
+    words.split(' ').any(|word| word == file)
 }
 
 /// Whether a call among the lines below names this file, before it is given anew. Where `is_given`, a line that alters it has it too.
@@ -40,15 +35,10 @@ fn is_same_check(one: &Directive<'_>, other: &Directive<'_>) -> bool {
 
 /// Whether a line of the same call, among those below, says the same of it.
 fn is_said_again(directive: &Directive<'_>, below: &[DirectiveLine<'_>]) -> bool {
-    for line in below {
-        if line.begins_step() {
-            return false;
-        }
-        if is_same_check(directive, &line.directive) {
-            return true;
-        }
-    }
-    false
+    below
+        .iter()
+        .take_while(|line| !line.begins_step())
+        .any(|line| is_same_check(directive, &line.directive))
 }
 
 /// Why a line has no effect, by the lines below it, or none where it has one.

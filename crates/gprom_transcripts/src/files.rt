@@ -9,12 +9,10 @@ const MOST: usize = 200_000_000;
 
 /// The content of the file of this name, if there is one.
 pub(crate) fn content<'a>(files: &'a [NamedFile], name: &str) -> Option<&'a [u8]> {
-    for file in files {
-        if file.name.as_str() == name {
-            return Some(file.bytes.as_slice());
-        }
-    }
-    None
+    files
+        .iter()
+        .find(|file| file.name.as_str() == name)
+        .map(|file| file.bytes.as_slice())
 }
 
 /// Gives the file of this name these bytes.
@@ -37,7 +35,6 @@ pub(crate) fn put(
     Ok(())
 }
 
-/// Copies of these files.
 pub(crate) fn copies(alloc: Global, files: &[NamedFile]) -> Result<Vec<NamedFile>, AllocError> {
     let mut all = Vec::new(alloc);
     for file in files {
@@ -92,9 +89,5 @@ pub(crate) fn altered(
             bytes.extend_from_slice(lines)?;
         }
     }
-    if 0 < number && number <= count {
-        Ok(Some(bytes))
-    } else {
-        Ok(None)
-    }
+    Ok((0 < number && number <= count).then_some(bytes))
 }

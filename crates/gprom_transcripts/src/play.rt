@@ -150,19 +150,8 @@ fn shown_output<'a>(line: usize, body: &[DirectiveLine<'a>]) -> (usize, Shown<'a
     (line, Shown::Lines)
 }
 
-/// Whether there are lines of an output.
 fn has_output(body: &[DirectiveLine<'_>]) -> bool {
     body.iter().any(|line| matches!(line.directive, Directive::Text(Marker::Output, _)))
-}
-
-/// A shelf with these files, on which the calls fail that are to fail.
-fn shelf_of(
-    alloc: Global,
-    files: &[NamedFile],
-    body: &[DirectiveLine<'_>],
-) -> Result<MemShelf, AllocError> {
-    let files = copies(alloc, files)?;
-    Ok(MemShelf::new(alloc, files, failing(alloc, body, true)?))
 }
 
 /// Makes a call, and gives its status.
@@ -267,7 +256,8 @@ impl Player {
 
     /// Makes a call, keeps what it leaves, and gives its status.
     fn call(&mut self, words: &str, body: &[DirectiveLine<'_>]) -> Result<u8, Failure> {
-        let mut shelf = shelf_of(self.alloc, &self.files, body)?;
+        let files = copies(self.alloc, &self.files)?;
+        let mut shelf = MemShelf::new(self.alloc, files, failing(self.alloc, body, true)?);
         let mut out = MemSink::new(self.alloc, failing(self.alloc, body, false)?);
         let status = called(self.alloc, words, &mut shelf, &mut out)?;
         check_made(self.alloc, body, true, reads_made(&mut shelf))?;
@@ -325,7 +315,6 @@ impl Player {
         Ok(())
     }
 
-    /// Plays the call at this line.
     fn play_call<H: Shelf>(
         &mut self,
         line: usize,
@@ -367,18 +356,6 @@ impl Player {
             _ => Ok(()),
         }
     }
-
-    /// Plays a transcript.
-    fn play_steps<H: Shelf>(
-        &mut self,
-        lines: &[DirectiveLine<'_>],
-        real: &mut H,
-    ) -> Result<(), Failure> {
-        for step in lines.chunk_by(|_, next| !next.begins_step()) {
-            self.play_step(step, real)?;
-        }
-        Ok(())
-    }
 }
 
 /// Plays a transcript, and gives the number of its calls.
@@ -389,6 +366,8 @@ pub(crate) fn play<H: Shelf>(alloc: Global, text: &str, real: &mut H) -> Result<
     }
     check_effects(&lines)?;
     let mut player = Player::new(alloc);
-    player.play_steps(&lines, real)?;
+    for step in lines.chunk_by(|_, next| !next.begins_step()) {
+        player.play_step(step, real)?;
+    }
     Ok(player.calls)
 }

@@ -35,14 +35,11 @@ impl<T: Drop> From<AllocFailed<T>> for Failure {
 
 /// How many bytes two texts have in common at their beginnings.
 pub(crate) fn common_length(wanted: &[u8], got: &[u8]) -> usize {
-    let mut length: usize = 0;
-    for (left, right) in wanted.iter().zip(got) {
-        if left != right {
-            break;
-        }
-        length = length.saturating_add(1);
-    }
-    length
+    wanted
+        .iter()
+        .zip(got)
+        .take_while(|pair| pair.0 == pair.1)
+        .count()
 }
 
 /// Appends the line of a text that has this byte, which is cut where it is long.
@@ -68,7 +65,6 @@ pub(crate) fn difference(alloc: Global, wanted: &[u8], got: &[u8]) -> Result<Vec
     Ok(message)
 }
 
-/// Writes a text and a number.
 pub(crate) fn write_number<K: Sink>(text: &[u8], number: usize, out: &mut K) {
     let _ = out.write_all(text);
     let _ = out.write_all(Buffer::new().format(number).as_bytes());
