@@ -1,4 +1,5 @@
-//! Whether two questions have the same changes.
+//! Whether two questions have the same changes. What is promised is one way: parts that are told the same are the same. To tell them apart all the same would
+//! cost another replay, and change no answer.
 
 ghost use Rattle.std.specs.Prelude.{◌≡◌, map, true};
 ghost use Rattle.gp_grammar.specs.Syntax as y;
