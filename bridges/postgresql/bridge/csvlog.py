@@ -96,10 +96,9 @@ def read(file, database=None):
         match = DURATION.fullmatch(fields[13])
         if failed or match:
             timed |= {fields[2]} if match else set()
-            detail = fields[14]
             yield Record(line, fields[5], *clock.times(fields, None if failed else float(match[1]) / 1000), fields[9], fields[10],
-                         fields[7], fields[19] if failed else match[2], failed, parameters(detail),
-                         detail.removeprefix('prepare: ') if detail.startswith('prepare: ') else '')
+                         fields[7], fields[19] if failed else match[2], failed, constants(detail(fields, 'parameters')),
+                         detail(fields, 'prepare'))
     if database and database not in databases:
         raise UserError(f'{file} has no records of the database {database}: it has {", ".join(sorted(databases - {""}))}')
     if not timed:
@@ -129,7 +128,13 @@ class Clock:
         return start, end, min(start, prepared) if virtual == fields[9] else start
 
 
-def parameters(detail):
-    """The constants of a message of the extended protocol."""
-    found = PARAMETER.findall(detail) if detail.startswith('parameters: ') else []
+def detail(fields, word):
+    """What stands behind this word in the DETAIL of a record, or ''. From PostgreSQL 16 on it may begin with a capital."""
+    said, _, rest = fields[14].partition(': ')
+    return rest if said.lower() == word else ''
+
+
+def constants(parameters):
+    """The constants of a message of the extended protocol, by their numbers."""
+    found = PARAMETER.findall(parameters)
     return {int(number): text_constant(None if value == 'NULL' else value[1:-1].replace("''", "'")) for number, value in found}

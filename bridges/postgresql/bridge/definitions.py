@@ -27,7 +27,7 @@ def type_of(name):
 
 def read(file):
     """The tables of a file by name, and why others are not among them."""
-    with open(file) as opened:
+    with open(file, encoding='utf-8') as opened:
         text = ''.join(line for line in opened if not line.startswith('\\'))
     reader = Reader()
     try:

@@ -1,4 +1,5 @@
 """Scripts with one fault each, to see that `verify` is not blind, and logs that lack a record, to see that `convert` is not.
+Of a log as a newer server writes it `convert` has to make the same script.
 
 In a script that `verify` found right, one statement of a covered transaction is dropped or one number of it is changed.
 A fault matters if it changes the rows of some version, which the dumps show; then `verify` has to find it.
@@ -37,7 +38,7 @@ def check(window, found, gprom, count, seed, made):
     mutations = mutate(window, found.verdicts, gprom, count, chosen)
     made += mutations
     failures = [f'line {mutation.line} as {mutation.text!r} is not found' for mutation in mutations if mutation.matters and not mutation.is_found]
-    return failures + without_a_record(window, chosen)
+    return failures + without_a_record(window, chosen) + of_a_newer_server(window)
 
 
 def summary(made):
@@ -77,6 +78,17 @@ def without_a_record(window, chosen):
         csv.writer(file).writerows(records[:at] + records[at + 1:])
     noticed = any(MISSING in line for line in convert(window, 'cut.csv', 'cut'))
     return [] if noticed else [f'that record {at + 1} of the log is missing is not noticed']
+
+
+def of_a_newer_server(window):
+    """Begins each DETAIL of the log with a capital, as newer servers do. Gives a line if that makes another script."""
+    with open(window.path('log.csv'), newline='', encoding='utf-8') as file:
+        records = list(csv.reader(file))
+    with open(window.path('newer.csv'), 'w', newline='', encoding='utf-8') as file:
+        csv.writer(file).writerows([*record[:14], record[14][:1].upper() + record[14][1:], *record[15:]] for record in records)
+    convert(window, 'newer.csv', 'newer')
+    scripts = [open(window.path(name), encoding='utf-8').read() for name in ('out.script', 'newer.script')]
+    return [] if scripts[0] == scripts[1] else ['a DETAIL that begins with a capital makes another script']
 
 
 def try_mutation(window, gprom, lines, at, text, right):
