@@ -1,8 +1,8 @@
 """The records of a PostgreSQL CSV log that speak of statements.
 
 With log_min_duration_statement = 0 a message is logged when it has ended. Its start is the time of the record less the
-duration. The time is cut to milliseconds, so both are known to a millisecond only. The record of a message that failed
-has no duration: it started somewhere behind the record before it in its session.
+duration. The time is cut to milliseconds, so the middle of its millisecond is taken, and both may be half of one off. The
+record of a message that failed has no duration: it started somewhere behind the record before it in its session.
 """
 import csv
 import re
@@ -16,6 +16,7 @@ DURATION = re.compile(r'duration: ([\d.]+) ms  (?:statement|execute (?!fetch fro
 PREPARED = re.compile(r'duration: ([\d.]+) ms  (?:parse|bind) ')
 UNTIMED = re.compile(r'(statement|execute [^:]*): ')
 PARAMETER = re.compile(r"\$(\d+) = ('(?:[^']|'')*'|NULL)")
+HALF = 0.0005                     # seconds: half of a millisecond
 TIME = re.compile(r'(\d{4}-\d\d-\d\d \d\d:\d\d:\d\d(?:\.\d+)?) ?(UTC|GMT|\+00)$')
 
 
@@ -23,7 +24,7 @@ TIME = re.compile(r'(\d{4}-\d\d-\d\d \d\d:\d\d:\d\d(?:\.\d+)?) ?(UTC|GMT|\+00)$'
 class Record:
     line: int            # of the log, from 1
     session: str
-    start: float         # seconds
+    start: float         # seconds, to HALF of a millisecond
     end: float
     opened: float        # when the server may first have taken a snapshot for it: in the extended protocol before its start
     virtual: str         # the transaction in its backend; one with /0 is none
@@ -115,13 +116,13 @@ class Clock:
 
     def prepare(self, fields, duration):
         """Notes a parse or bind message. It may take the snapshot of its transaction."""
-        virtual, start = fields[9], seconds(fields[0]) - duration
+        virtual, start = fields[9], seconds(fields[0]) + HALF - duration
         if self.prepared.get(fields[5], ('',))[0] != virtual:
             self.prepared[fields[5]] = virtual, start
 
     def times(self, fields, duration):
         """Start, end, and when a snapshot was possible, of a message that ran or failed."""
-        end = seconds(fields[0])
+        end = seconds(fields[0]) + HALF
         start = self.ends.get(fields[5], end) if duration is None else end - duration
         self.ends[fields[5]] = end
         virtual, prepared = self.prepared.pop(fields[5], ('', start))

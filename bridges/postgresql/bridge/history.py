@@ -4,6 +4,7 @@ from dataclasses import dataclass, field
 from pglast import ast, enums
 
 from . import NotCovered
+from .csvlog import HALF
 from .statements import WITHOUT_SNAPSHOT, Translator, Target, is_quiet, only_reads, parse, target_of
 from .terms import Statement
 from .translate import walk
@@ -32,6 +33,11 @@ class Step:
     @property
     def writes(self):
         return self.statement is None or self.statement.kind != 'select'
+
+    @property
+    def locks(self):
+        """Whether it locks rows that are there. Then it may wait for their writers, and goes on with the rows as they left them."""
+        return self.statement is not None and (self.statement.kind in ('update', 'delete') or self.statement.locks)
 
 
 @dataclass
@@ -334,7 +340,7 @@ def candidates(transactions, commit):
 
 def distance(commit, transaction):
     """The seconds between a commit and the millisecond of the log in which the record of its message was written."""
-    return max(transaction.end - commit.time, commit.time - transaction.end - 0.001, 0.0)
+    return max(abs(commit.time - transaction.end) - HALF, 0.0)
 
 
 def unlogged(commit):

@@ -6,6 +6,7 @@ the slot. A statement that gprom cannot express, or that has no place, becomes t
 """
 from bisect import bisect_right
 
+from .csvlog import HALF
 from .history import SLACK, candidates, unlogged
 from .literals import literal_statements
 from .places import Search
@@ -19,13 +20,16 @@ TWINS = 'a write of some of equal rows of a table without a key'
 
 
 def estimate(transaction, times, lowest):
-    """Places from the times alone, in the order of the session and before the transaction's own commit."""
+    """Places from the times alone, in the order of the session and before the transaction's own commit.
+
+    Under READ COMMITTED what locks rows stands where it ended. Nobody else writes these rows from then on, so a little later does no harm.
+    """
     transaction.lowest = low = lowest
     last = transaction.commit if transaction.commit is not None else len(times)
     transaction.version = max(low, min(bisect_right(times, transaction.started or 0.0), last))
     for step in transaction.steps:
-        waits = not transaction.is_snapshot and step.statement and step.statement.kind in ('update', 'delete')
-        low = step.version = max(low, min(bisect_right(times, step.end if waits else step.start), last))
+        read = step.end + HALF if step.locks and not transaction.is_snapshot else step.start
+        low = step.version = max(low, min(bisect_right(times, read), last))
 
 
 class Settling:

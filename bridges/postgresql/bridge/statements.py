@@ -105,7 +105,7 @@ class Translator:
         refuse(node, 'withClause', 'onConflictClause', 'intoClause')
         match node:
             case ast.SelectStmt():
-                return [Statement('select', blocks=agreeing([self.reads(block) for block in self.blocks(node)]))]
+                return [Statement('select', blocks=agreeing([self.reads(block) for block in self.blocks(node)]), locks=locks_rows(node))]
             case ast.InsertStmt():
                 return self.insert(node)
             case ast.UpdateStmt():
@@ -279,6 +279,12 @@ def refuse(node, *clauses):
         clause = getattr(node, name, None)
         if clause:
             raise NotCovered(f'a query with {CLAUSES[name]}' if name in CLAUSES else reason_of(clause))
+
+
+def locks_rows(node):
+    """Whether a SELECT lets nobody else write the rows that it gives."""
+    return any(lock.strength not in (enums.LockClauseStrength.LCS_NONE, enums.LockClauseStrength.LCS_FORKEYSHARE)
+               for lock in node.lockingClause or ())
 
 
 def named(items):

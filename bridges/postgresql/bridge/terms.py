@@ -22,6 +22,7 @@ class Statement:
     blocks: list = None             # (terms, items, where), an item being (table, alias)
     sets: list = None               # (column, term)
     where: tuple = None
+    locks: bool = False             # of a select: FOR UPDATE or FOR SHARE
 
     def has_holes(self):
         """Whether the slot has to give cells of it."""

@@ -1,11 +1,13 @@
 """Small cases by hand: what an application does to a server, and gprom cannot say or says in other words.
 
-Each case has its own tables and a few statements, of session a unless they begin with `b: `. Statements may fail. In the
-end every transaction has to be `same`, or `not covered` with its reason, and the rows of the last version those of the
-server. `expected` says which, so that nothing gets worse unseen: the kind of each transaction that `verify` lists.
+Each case has its own tables and a few statements, of session a unless they begin with `b: `. Statements may fail, or wait
+for the other session. In the end every transaction has to be `same`, or `not covered` with its reason, and the rows of the
+last version those of the server. `expected` says which, so that nothing gets worse unseen: the kind of each transaction that
+`verify` lists. What no verdict tells, such as what was read, `answers` says.
 """
-from dataclasses import dataclass
+from dataclasses import dataclass, field
 
+from .judge import ask
 from .protocol import ServerError
 
 ACCOUNTS = "CREATE TABLE acct (id INTEGER PRIMARY KEY, bal INTEGER); INSERT INTO acct VALUES (1, 100), (2, 50), (3, 7);"
@@ -15,15 +17,17 @@ PARENTS = """CREATE TABLE parent (id INTEGER PRIMARY KEY); INSERT INTO parent VA
              CREATE TABLE child (id INTEGER PRIMARY KEY, parent INTEGER REFERENCES parent {rule});
              INSERT INTO child VALUES (10, 1), (11, 1), (12, 2);"""
 NEXT = 'UPDATE acct SET bal = bal + 1 WHERE id = 1'     # shows that later transactions find the rows that they found on the server
+PATIENCE = 1.0         # seconds without a reply, after which a statement is taken to wait
 
 
 @dataclass
 class Case:
-    """Tables, statements, and what `verify` is to say of the transactions."""
+    """Tables, statements, what `verify` is to say of the transactions, and what gprom is to answer about them."""
     name: str
     setup: str
     statements: list[str]
     expected: str = ''
+    answers: dict[str, list[str]] = field(default_factory=dict)     # by the question, the lines under the first
 
 
 CASES = [
@@ -166,27 +170,47 @@ CASES = [
          ['CREATE TABLE other AS SELECT * FROM acct', 'BEGIN', 'INSERT INTO other VALUES (1, 1)', NEXT, 'COMMIT',
           'CREATE TEMP TABLE mine (id INTEGER)', 'INSERT INTO mine VALUES (1)', 'DROP TABLE other', NEXT],
          'patched, patched, not covered, not covered, not covered, same'),
+    Case('rows are locked, and then read', ACCOUNTS,    # a SELECT that waited gives the newest rows
+         ['BEGIN', 'SELECT bal FROM acct WHERE id = 1 FOR UPDATE', 'b: BEGIN', 'b: SELECT bal FROM acct WHERE id = 1 FOR UPDATE',
+          'UPDATE acct SET bal = 120 WHERE id = 1', 'COMMIT', 'b: UPDATE acct SET bal = 150 WHERE id = 1', 'b: COMMIT'],
+         'same, same',
+         {'SAW 2 AFTER 1 SELECT bal FROM acct WHERE id = 1': ['100'], 'SAW 3 AFTER 1 SELECT bal FROM acct WHERE id = 1': ['120'],
+          'SERIAL': ['1', '2', '3']}),
     Case('a column comes', ACCOUNTS, [NEXT, 'ALTER TABLE acct ADD COLUMN note TEXT', "UPDATE acct SET note = 'new' WHERE id = 2", NEXT],
          'same, not covered, patched, patched'),
 ]
 
 
-def check(_, found, case):
-    """What is wrong: other verdicts than the case expects."""
+def check(window, found, case, gprom):
+    """What is wrong: other verdicts or answers than the case expects."""
     kinds = ', '.join(verdict.kind() for verdict in found.verdicts)
-    return [] if kinds == case.expected else [f'expected {case.expected}; found {kinds}']
+    wrong = [] if kinds == case.expected else [f'expected {case.expected}; found {kinds}']
+    for question, (_, lines) in zip(case.answers, ask(gprom, window.path('out.dump'), case.answers)):
+        if lines != case.answers[question]:
+            wrong.append(f'{question}: expected {case.answers[question]}; found {lines}')
+    return wrong
 
 
 def run(cluster, case):
-    """Runs the statements of a case. What the server refuses is a part of it."""
+    """Runs the statements of a case. What the server refuses is a part of it. One that waits is left, and the others go on."""
     sessions = {}
     for statement in case.statements:
         name, text = ('b', statement[3:]) if statement.startswith('b: ') else ('a', statement)
         if name not in sessions:
             sessions[name] = cluster.connect()
-        try:
-            sessions[name].execute(text)
-        except (ServerError, ConnectionError):
-            pass
+        take_reply(sessions[name])
+        sessions[name].send(text)
+        if sessions[name].has_reply(PATIENCE):
+            take_reply(sessions[name])
     for session in sessions.values():
+        take_reply(session)
         session.close()
+
+
+def take_reply(session):
+    """Takes the reply that a session has not taken yet, if there is one."""
+    try:
+        if session.busy:
+            session.receive()
+    except (ServerError, ConnectionError):
+        pass
