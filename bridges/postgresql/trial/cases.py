@@ -199,7 +199,10 @@ def run(cluster, case):
         if name not in sessions:
             sessions[name] = cluster.connect()
         take_reply(sessions[name])
-        sessions[name].send(text)
+        try:
+            sessions[name].send(text)
+        except ConnectionError:                         # the server has ended the session
+            continue
         if sessions[name].has_reply(PATIENCE):
             take_reply(sessions[name])
     for session in sessions.values():

@@ -1,11 +1,12 @@
 """Scripts with one fault each, to see that `verify` is not blind, and logs that lack a record, to see that `convert` is not.
-Of a log as a newer server writes it `convert` has to make the same script.
 
 In a script that `verify` found right, one statement of a covered transaction is dropped or one number of it is changed.
-A fault matters if it changes the rows of some version, which the dumps show; then `verify` has to find it.
+A fault matters if it changes the rows of some version, which the dumps show; then `verify` has to find it. A log with other
+capitals in its DETAILs, as newer servers may write it, is no fault: `convert` has to make the same script of it.
 """
 import collections
 import csv
+import filecmp
 import random
 import re
 import shutil
@@ -81,14 +82,14 @@ def without_a_record(window, chosen):
 
 
 def of_a_newer_server(window):
-    """Begins each DETAIL of the log with a capital, as newer servers do. Gives a line if that makes another script."""
+    """Begins each DETAIL of the log with a capital, as newer servers may. Gives a line if that makes another script."""
     with open(window.path('log.csv'), newline='', encoding='utf-8') as file:
         records = list(csv.reader(file))
     with open(window.path('newer.csv'), 'w', newline='', encoding='utf-8') as file:
         csv.writer(file).writerows([*record[:14], record[14][:1].upper() + record[14][1:], *record[15:]] for record in records)
     convert(window, 'newer.csv', 'newer')
-    scripts = [open(window.path(name), encoding='utf-8').read() for name in ('out.script', 'newer.script')]
-    return [] if scripts[0] == scripts[1] else ['a DETAIL that begins with a capital makes another script']
+    is_same = filecmp.cmp(window.path('out.script'), window.path('newer.script'), shallow=False)
+    return [] if is_same else ['a DETAIL that begins with a capital makes another script']
 
 
 def try_mutation(window, gprom, lines, at, text, right):

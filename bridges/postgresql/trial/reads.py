@@ -1,7 +1,7 @@
 """Compares what SELECTs gave on the server with what they give in the script.
 
 No log has the rows that a statement read, so `verify` cannot compare them, and a statement that only reads is placed by its times.
-Here the client has the rows. A SELECT that locks its rows may have waited for another transaction, and then gave its rows.
+Here the client has the rows. A SELECT that locks its rows may have waited for their writer, and then gave them as that one left them.
 """
 import csv
 import random
@@ -118,7 +118,7 @@ def lines_of(window):
 
 
 def pairs(lines, reads):
-    """Each line of the script with what its SELECT gave on the server. Those of a transaction that is patched as a whole are in the log alone."""
+    """Each line of the script with what its SELECT gave on the server. Some have no line: those of a transaction that is patched as a whole."""
     left = iter(reads)
     for line, text in lines:
         yield line, next(read for read in left if read.text == text)
