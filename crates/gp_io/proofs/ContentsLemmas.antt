@@ -3,7 +3,7 @@ use Rattle.std.proofs.Common.{◌≡◌, ℕ, Bool, true, false, cond, List, [],
 use Rattle.std.specs.Option.{option_map}
 use Rattle.std.proofs.lemmas.Slice.Eq.{bytes_eq-Decides}
 use Rattle.gp_io.specs.Contents.{Contents, HaveSame, Leads, contents_of, events_of, no_files, replaced_by}
-use Rattle.gp_io.specs.Events.{Event, Read, Missing, Unreadable, Replaced, NotReplaced}
+use Rattle.gp_io.specs.Events.{Event, Read, Missing, Unreadable, Stopped, Replaced, NotReplaced}
 use Rattle.gp_io.specs.Files.{Files, Replaces, content, prefix_of}
 
 -- calls that begin with files that have the same
@@ -12,6 +12,7 @@ Leads-from old other [] new same leads = λ name. leads name ∙ sym (same name)
 Leads-from old other (Read name most bytes ∷ events) new same leads = (ap (option_map (take most)) (same name) ∙ leads.0, Leads-from old other events new same leads.1)
 Leads-from old other (Missing name ∷ events) new same leads = (same name ∙ leads.0, Leads-from old other events new same leads.1)
 Leads-from old other (Unreadable name ∷ events) new same leads = Leads-from old other events new same leads
+Leads-from old other (Stopped name ∷ events) new same leads = Leads-from old other events new same leads
 Leads-from old other (Replaced name bytes ∷ events) new same leads =
     Leads-from (replaced_by name bytes old) (replaced_by name bytes other) events new
     (λ also. ap (λ (held : Option (List ℕ)). cond (bytes_eq name also) (Some bytes) held) (same also)) leads
@@ -23,6 +24,7 @@ Leads-then old middle new [] second leads later = Leads-from middle old second n
 Leads-then old middle new (Read name most bytes ∷ first) second leads later = (leads.0, Leads-then old middle new first second leads.1 later)
 Leads-then old middle new (Missing name ∷ first) second leads later = (leads.0, Leads-then old middle new first second leads.1 later)
 Leads-then old middle new (Unreadable name ∷ first) second leads later = Leads-then old middle new first second leads later
+Leads-then old middle new (Stopped name ∷ first) second leads later = Leads-then old middle new first second leads later
 Leads-then old middle new (Replaced name bytes ∷ first) second leads later = Leads-then (replaced_by name bytes old) middle new first second leads later
 Leads-then old middle new (NotReplaced name bytes ∷ first) second leads later = Leads-then old middle new first second leads later
 
@@ -32,6 +34,7 @@ Leads-after start old new [] events leads all = Leads-from start old events new 
 Leads-after start old new (Read name most bytes ∷ before) events leads all = Leads-after start old new before events leads.1 all.1
 Leads-after start old new (Missing name ∷ before) events leads all = Leads-after start old new before events leads.1 all.1
 Leads-after start old new (Unreadable name ∷ before) events leads all = Leads-after start old new before events leads all
+Leads-after start old new (Stopped name ∷ before) events leads all = Leads-after start old new before events leads all
 Leads-after start old new (Replaced name bytes ∷ before) events leads all = Leads-after (replaced_by name bytes start) old new before events leads all
 Leads-after start old new (NotReplaced name bytes ∷ before) events leads all = Leads-after start old new before events leads all
 
@@ -66,6 +69,9 @@ module _ (events : List Event) (files : Files) (leads : Leads no_files events (c
 
   pub Leads-unreadable : (name : List ℕ) → Leads no_files (events ++ Unreadable name ∷ []) (contents_of files)
   Leads-unreadable name = Leads-then no_files (contents_of files) (contents_of files) events (Unreadable name ∷ []) leads (λ other. refl)
+
+  pub Leads-stopped : (name : List ℕ) → Leads no_files (events ++ Stopped name ∷ []) (contents_of files)
+  Leads-stopped name = Leads-then no_files (contents_of files) (contents_of files) events (Stopped name ∷ []) leads (λ other. refl)
 
   pub Leads-not_replaced : (name bytes : List ℕ) → Leads no_files (events ++ NotReplaced name bytes ∷ []) (contents_of files)
   Leads-not_replaced name bytes = Leads-then no_files (contents_of files) (contents_of files) events (NotReplaced name bytes ∷ []) leads (λ other. refl)

@@ -1,7 +1,7 @@
 -- Of the law `events_lead_to_files`: what the calls of a shelf in memory do to its files, by their events.
 use Rattle.std.specs.Prelude.{◌≡◌, ℕ, List, [], ◌∷◌, ◌++◌, take, Option, None, Some, bytes_eq, if◌then◌else◌}
 use Rattle.std.specs.Option.{option_map}
-use Rattle.gp_io.specs.Events.{Event, Read, Missing, Unreadable, Replaced, NotReplaced}
+use Rattle.gp_io.specs.Events.{Event, Read, Missing, Unreadable, Stopped, Replaced, NotReplaced}
 use Rattle.gp_io.specs.Files.{Files, content}
 
 -- what the file of each name has, where there is one
@@ -28,6 +28,7 @@ Leads old [] new = HaveSame old new
 Leads old (Read name most bytes ∷ events) new = (option_map (take most) (old name) ≡ Some bytes) × Leads old events new
 Leads old (Missing name ∷ events) new = (old name ≡ None) × Leads old events new
 Leads old (Unreadable name ∷ events) new = Leads old events new
+Leads old (Stopped name ∷ events) new = Leads old events new
 Leads old (Replaced name bytes ∷ events) new = Leads (replaced_by name bytes old) events new
 Leads old (NotReplaced name bytes ∷ events) new = Leads old events new
 

@@ -1,5 +1,10 @@
 pub mod Events
 pub mod EventCodes
+pub mod Steps
+pub mod StepCodes
+pub mod Whole
+pub mod Moments
+pub mod FoundFile
 pub mod Noted
 pub mod Streams
 pub mod ShelfSteps

@@ -84,9 +84,17 @@ impl Shelf for CalmShelf {
     {
         match prefix_of(&self.files, name, most) {
             Some(bytes) => {
-                let bytes = Vec::from_slice(self.alloc, bytes)?;
-                self.trace = self.trace.and(&Note::Read(name, most, &bytes));
-                Ok(bytes)
+                let answer = Vec::from_slice(self.alloc, bytes);
+                match answer {
+                    Ok(bytes) => {
+                        self.trace = self.trace.and(&Note::Read(name, most, &bytes));
+                        Ok(bytes)
+                    }
+                    Err(_) => {
+                        self.trace = self.trace.and(&Note::Stopped(name));
+                        Err(ShelfStop::NoMemory)
+                    }
+                }
             }
             None => {
                 self.trace = self.trace.and(&Note::Missing(name));

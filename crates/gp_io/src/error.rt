@@ -13,7 +13,7 @@ pub enum ShelfStop {
     /// The file could not be read or replaced.
     #[error("the file cannot be read or replaced")]
     Failed,
-    /// Out of memory: there is no event, and no file changed.
+    /// Out of memory: no file changed.
     #[error("out of memory")]
     NoMemory,
 }
@@ -27,6 +27,17 @@ pub enum SinkStop {
     /// Out of memory: nothing was written.
     #[error("out of memory")]
     NoMemory,
+}
+
+/// Why bytes were not stored in a new file.
+#[derive(Clone, Copy, Debug, PartialEq, Eq, Drop)]
+pub(crate) enum NotStored {
+    /// The name is taken: nothing was made.
+    Taken,
+    /// The file could not be made.
+    NotMade,
+    /// It was made, and does not have the bytes for sure.
+    Broken,
 }
 
 impl From<AllocError> for ShelfStop {

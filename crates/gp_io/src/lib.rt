@@ -1,7 +1,8 @@
 //! Files and an output as traits, so that a contract can state what a call reads and writes.
 //!
 //! In reading order:
-//! - `edge` is where the operating system is called: 60 lines, which are read by eye, and all else is proved over them.
+//! - `edge` is where the operating system is called: 90 lines, which are read by eye, and all else is proved over them. `calls` has their contracts.
+//! - `whole` replaces a file whole or not at all. [`files_are_replaced_whole`] says what its steps do to files.
 //! - [`Shelf`] and [`Sink`] are the traits. Their contracts say what each answer means.
 //! - [`ShelfStop`] and [`SinkStop`] are the reasons why a call stopped.
 //! - [`CalmShelf`] and [`CalmSink`] keep everything in memory and never fail but for memory.
@@ -20,12 +21,14 @@
 //! ```
 #![tactic(auto)]
 
+mod calls;
 mod calm;
 mod disk;
 mod edge;
 mod error;
 mod fault_plan;
 mod file_list;
+mod found;
 mod laws;
 mod mem;
 mod named_file;
@@ -34,11 +37,12 @@ mod sink;
 mod stdout;
 mod stream;
 mod trace;
+mod whole;
 
 pub use calm::{CalmShelf, CalmSink};
 pub use disk::DiskShelf;
 pub use error::{ShelfStop, SinkStop};
-pub use laws::events_lead_to_files;
+pub use laws::{events_lead_to_files, files_are_replaced_whole};
 pub use mem::{MemShelf, MemSink};
 pub use named_file::NamedFile;
 pub use shelf::Shelf;

@@ -7,7 +7,7 @@ use crate::error::ShelfStop;
 
 /// Named files that can be read and replaced.
 ///
-/// A contract sees of a shelf what its calls have done: its `events`, the latest last. Each call adds one at most, which says what was
+/// A contract sees of a shelf what its calls have done: its `events`, the latest last. Each read adds one and each replacement one at most, which says what was
 /// read or replaced. So a contract speaks of the bytes that passed, whatever others do to the files meanwhile.
 pub trait Shelf {
     ghost events: { Self → List Event };
@@ -16,7 +16,7 @@ pub trait Shelf {
     ///
     /// - `Absent`: there is no such file.
     /// - `Failed`: the file could not be read.
-    /// - `NoMemory`: memory ran out, and there is no event.
+    /// - `NoMemory`: memory ran out. What was read of an input that is read once is lost.
     fn read(&mut self, name: &str, most: usize) -> Result<Vec<u8>, ShelfStop>
         ensures at_most { IfOk result (λ bytes. vec_len bytes ≤ most) }
         ensures read { IfOk result (λ bytes.
@@ -25,7 +25,7 @@ pub trait Shelf {
 
     /// Makes `bytes` the content of the file `name`, which is created where it does not exist. No other file changes.
     ///
-    /// - `Failed`: the file could not be replaced. Its content is unknown.
+    /// - `Failed`: the file could not be replaced. Its content is unknown, where the shelf says no more of it.
     /// - `NoMemory`: memory ran out, no file changes, and there is no event.
     ///
     /// `Absent` never comes.

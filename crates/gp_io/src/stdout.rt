@@ -1,6 +1,7 @@
 //! The standard output as a sink.
 ghost use Rattle.std.specs.Prelude.{◌≡◌, []};
 
+use crate::calls::Output;
 use crate::edge::System;
 use crate::error::SinkStop;
 use crate::sink::Sink;
