@@ -1,19 +1,33 @@
 -- Part of the statement: which transactions of a history come before which others, whatever their order in time. One comes before another where it read what
 -- was before the other's commit, where the other read what its own commit had made, or where both wrote a row (Adya, Liskov and O'Neil, ICDE 2000: the dependencies
 -- of a direct serialization graph, with predicate reads).
-use Rattle.std.specs.Prelude.{ℕ, suc, zero, ◌==◌, ◌&&◌, ◌||◌, nat_le, nat_lt, Bool, false, List, [], ◌∷◌, ◌++◌, filter, length, map, if◌then◌else◌}
+use Rattle.std.specs.Prelude.{ℕ, suc, zero, ◌==◌, ◌&&◌, ◌||◌, nat_le, nat_lt, not, Bool, true, false, List, [], ◌∷◌, ◌++◌, filter, length, map, Option, Some, slice_get, if◌then◌else◌}
 use Rattle.std.specs.List.{flat_map, list_any}
 use Rattle.std.specs.Option.{option_map_or}
+use Rattle.std.specs.Ordering.{is_eq}
+use Rattle.gp_base.specs.declared.cell.Cell.{Cell}
 use Rattle.gp_base.specs.declared.table.Table.{Table}
 use Rattle.gp_base.specs.Identities.{same_identity}
+use Rattle.gp_base.specs.Order.{cell_cmp}
 use Rattle.gp_machine.specs.Entries.{Entry, committer_of, statement_at, statement_count, statement_version}
 use Rattle.gp_machine.specs.Looks.{Look, looks, sees}
-use Rattle.gp_machine.specs.RowChanges.{RowChange, differs}
+use Rattle.gp_machine.specs.RowChanges.{RowChange}
 
--- a statement looks at a row that was changed, by its cells before or after
+-- NULL and NULL are equal
+abbrev pub cell_differs : Option Cell → Option Cell → Bool
+cell_differs (Some cell) (Some other) = not (is_eq (cell_cmp cell other))
+cell_differs cell other = false
+
+-- the cells of some of these columns differ, or the row is missing before or after
+abbrev pub side_differs_in : List ℕ → Option (List Cell) → Option (List Cell) → Bool
+side_differs_in columns (Some cells) (Some others) = list_any (λ column. cell_differs (slice_get cells column) (slice_get others column)) columns
+side_differs_in columns before after = true
+
+-- a statement looks at a row that was changed, by its cells before or after, and uses a column that was changed
 abbrev pub meets : RowChange → Look → Bool
 meets change look =
-    (change.row.table == look.table) && (differs change && (option_map_or (sees look) change.before false || option_map_or (sees look) change.after false))
+    (change.row.table == look.table)
+    && (side_differs_in look.columns change.before change.after && (option_map_or (sees look) change.before false || option_map_or (sees look) change.after false))
 
 abbrev pub same_row : RowChange → RowChange → Bool
 same_row change other = (change.row.table == other.row.table) && same_identity change.row.identity other.row.identity

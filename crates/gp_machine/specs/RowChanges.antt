@@ -1,10 +1,8 @@
 -- Part of the statement: the rows that the commits of a history wrote, by its row versions: each with its cells before and after.
-use Rattle.std.specs.Prelude.{ℕ, suc, ◌==◌, ◌&&◌, not, Bool, true, false, List, [], ◌∷◌, ◌++◌, Option, Some, None, slice_get, if◌then◌else◌}
+use Rattle.std.specs.Prelude.{ℕ, suc, ◌==◌, ◌&&◌, Bool, false, List, [], ◌∷◌, ◌++◌, Option, Some, None, slice_get, if◌then◌else◌}
 use Rattle.std.specs.Option.{option_and_then, option_map_or}
-use Rattle.std.specs.Ordering.{is_eq}
 use Rattle.gp_base.specs.declared.cell.Cell.{Cell}
 use Rattle.gp_base.specs.Identities.{same_identity}
-use Rattle.gp_base.specs.Order.{row_cmp}
 use Rattle.gp_algebra.specs.Effects.{Written}
 use Rattle.gp_versions.specs.declared.span.Span.{Span}
 
@@ -14,14 +12,6 @@ pub record RowChange : Type 0 where
   pub row : Written
   pub before : Option (List Cell)
   pub after : Option (List Cell)
-
--- whether the commit left the row with other cells, or made or deleted it
-abbrev pub side_differs : Option (List Cell) → Option (List Cell) → Bool
-side_differs (Some cells) (Some others) = not (is_eq (row_cmp cells others))
-side_differs before after = true
-
-abbrev pub differs : RowChange → Bool
-differs change = side_differs change.before change.after
 
 -- ---- by the spans of a table, in the order of a dump: by identity, then by the version that they begin with
 

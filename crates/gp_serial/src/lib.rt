@@ -1,7 +1,7 @@
 //! Whether the transactions of a history could have run one after another, by its log and its row versions.
 //!
 //! In reading order: [`changes_of`] gives a [`RowChange`] for each row that a commit wrote. [`looks_of`] gives the [`Look`]s of a statement: the rows
-//! that it reads, by a table and by conditions. Both together say which transactions come before which others: [`precedence`] is the [`Graph`]
+//! that it reads, by a table, conditions and columns. Both together say which transactions come before which others: [`precedence`] is the [`Graph`]
 //! of that, and [`reason_of`] why one comes before another one. [`order_of`] is the order of the transactions that keeps it, and [`least_cycle`]
 //! the first of the shortest cycles where there is none. [`serial_log`] is the log in which they run in an order, and [`serialize`] answers: it
 //! makes the commits of that log again, and compares what each statement does with what it did.

@@ -1,7 +1,8 @@
 //! What statements look at.
 
-ghost use Rattle.std.specs.Prelude.{◌≡◌, ◌+◌, ◌∷◌, [], ◌++◌, ◌&&◌, true, map, filter, replicate, IfOk, OnOk};
-ghost use Rattle.std.specs.List.{flat_map};
+ghost use Rattle.std.specs.Prelude.{◌≡◌, ◌+◌, false, suc, ◌∷◌, [], ◌++◌, ◌&&◌, true, map, filter, replicate, IfOk, OnOk};
+ghost use Rattle.std.specs.List.{flat_map, list_any};
+ghost use Rattle.std.specs.Option.{option_map, option_map_or};
 ghost use Rattle.gp_base.specs.declared.cell.Cell.TheVariants as cell;
 ghost use Rattle.gp_expr.specs.ExpressionForms.{cond_is_simple, is_simple};
 ghost use Rattle.gp_expr.specs.Expressions as e;
@@ -9,17 +10,19 @@ ghost use Rattle.gp_expr.specs.Gathering.{gathered};
 ghost use Rattle.gp_expr.specs.Views.{cond_view, expr_view};
 ghost use Rattle.gp_algebra.specs.Fitting.{statement_fits};
 ghost use Rattle.gp_algebra.specs.Statements.{width_of};
-ghost use Rattle.gp_algebra.specs.Views.{branch_view, statement_view};
+ghost use Rattle.gp_algebra.specs.Views.{branch_view, set_view, statement_view};
 ghost use Rattle.gp_machine.specs.Looks as m;
 ghost use Rattle.gp_serial.specs.Meetings.{AreReady, AreSimple, IsReady};
-ghost use Rattle.gp_serial.specs.LookViews.{AreSimpleWheres, IsSimpleWhere, look_view, members_of};
+ghost use Rattle.gp_serial.specs.LookViews.{AreSimpleBranches, AreSimpleItems, AreSimpleSets, IsSimpleBranch, IsSimpleWhere};
+ghost use Rattle.gp_serial.specs.LookViews.{look_view, members_of};
 
-use gp_algebra::{Branch, Stmt};
+use gp_algebra::{Branch, SetExpr, Stmt};
 use gp_base::{Catalog, Cell, NoMemory};
 use gp_expr::{Cond, Expr};
 use std::alloc::Global;
 
-/// The rows of a table that satisfy conditions. Columns count through all tables of a FROM, so that the cells of a row follow those of the tables before it.
+/// The rows of a table that satisfy conditions, and the columns in which a statement reads them. The columns of a condition count through all tables of
+/// a FROM, so that the cells of a row follow those of the tables before it.
 #[derive(Drop)]
 pub struct Look<'a> {
     /// The place of the table.
@@ -28,6 +31,8 @@ pub struct Look<'a> {
     pub before: Vec<Cell>,
     /// The conditions.
     pub conds: Vec<&'a Cond>,
+    /// The places of the columns of the table that the statement uses, from 0.
+    pub columns: Vec<usize>,
 }
 
 /// Whether a column is one of the `width` columns that follow the first `before`; columns count from 1.
@@ -78,6 +83,138 @@ fn is_about(cond: &Cond, before: usize, width: usize) -> bool
         }
         Cond::Not(cond) => is_about(cond, before, width),
     }
+}
+
+/// Whether a column is the one at a place behind the first `before`; columns count from 1, places from 0.
+fn is_column(column: u32, before: usize, place: usize) -> bool
+    ensures { result ≡ m.is_column (before + suc place) (e.col column) }
+{
+    let column = column as usize;
+    before < column && column - before - 1 == place
+}
+
+/// Whether this column occurs in an expression.
+#[cycle(occurring)]
+fn occurs_in(expr: &Expr, before: usize, place: usize) -> bool
+    requires { is_simple (expr_view expr.now) ≡ true }
+    ensures { result ≡ m.occurs_in (before + suc place) (expr_view expr.now) }
+{
+    match expr {
+        Expr::Col(column) => is_column(*column, before, place),
+        Expr::Const(_) => false,
+        Expr::Add(left, right) | Expr::Sub(left, right) | Expr::Mul(left, right) => {
+            occurs_in(left, before, place) || occurs_in(right, before, place)
+        }
+        Expr::Neg(inner) => occurs_in(inner, before, place),
+        Expr::Case(cond, first, other) => {
+            occurs_in_cond(cond, before, place)
+                || (occurs_in(first, before, place) || occurs_in(other, before, place))
+        }
+        // Statements have simple expressions only.
+        Expr::NewId { .. } | Expr::Times(_, _) => false,
+    }
+}
+
+/// Whether this column occurs in a condition.
+#[cycle(occurring)]
+fn occurs_in_cond(cond: &Cond, before: usize, place: usize) -> bool
+    requires { cond_is_simple (cond_view cond.now) ≡ true }
+    ensures { result ≡ m.occurs_in_cond (before + suc place) (cond_view cond.now) }
+{
+    match cond {
+        Cond::True => false,
+        Cond::Cmp(_, left, right) => {
+            occurs_in(left, before, place) || occurs_in(right, before, place)
+        }
+        Cond::IsNull { expr, .. } => occurs_in(expr, before, place),
+        Cond::IsTrue { cond, .. } => occurs_in_cond(cond, before, place),
+        Cond::And(left, right) | Cond::Or(left, right) => {
+            occurs_in_cond(left, before, place) || occurs_in_cond(right, before, place)
+        }
+        Cond::Not(cond) => occurs_in_cond(cond, before, place),
+    }
+}
+
+/// Whether this column occurs in one of some expressions.
+fn occurs_in_items(items: &[Expr], before: usize, place: usize) -> bool
+    requires { AreSimpleItems items.now }
+    ensures { result ≡ list_any (m.occurs_in (before + suc place)) (map expr_view items.now) }
+{
+    for item in items {
+        if occurs_in(item, before, place) {
+            return true;
+        }
+    }
+    false
+}
+
+/// Whether this column occurs in the terms of assignments.
+fn occurs_in_sets(sets: &[SetExpr], before: usize, place: usize) -> bool
+    requires { AreSimpleSets sets.now }
+    ensures { result
+        ≡ list_any (λ set. m.occurs_in (before + suc place) set.expr) (map set_view sets.now) }
+{
+    for set in sets {
+        if occurs_in(&set.expr, before, place) {
+            return true;
+        }
+    }
+    false
+}
+
+/// Whether this column occurs in a WHERE.
+fn occurs_in_where(cond: &Option<Cond>, before: usize, place: usize) -> bool
+    requires { IsSimpleWhere cond.now }
+    ensures { result
+        ≡ option_map_or (m.occurs_in_cond (before + suc place)) (option_map cond_view cond.now) false }
+{
+    match cond {
+        Some(cond) => occurs_in_cond(cond, before, place),
+        None => false,
+    }
+}
+
+/// Of `width` columns behind the first `before`, the places of those that occur in a SELECT.
+fn branch_columns(
+    alloc: Global,
+    before: usize,
+    width: usize,
+    branch: &Branch,
+) -> Result<Vec<usize>, NoMemory>
+    requires { IsSimpleBranch branch.now }
+    ensures { IfOk result (λ columns. columns.items
+        ≡ m.used (m.occurs_in_branch (branch_view branch.now)) before width) }
+{
+    let mut columns = Vec::new(alloc);
+    for place in 0..width {
+        if occurs_in_items(branch.items.as_slice(), before, place)
+            || occurs_in_where(&branch.cond, before, place)
+        {
+            columns.push(place)?;
+        }
+    }
+    Ok(columns)
+}
+
+/// Of the `width` columns of a table, the places of those that occur in the terms of assignments or in a WHERE.
+fn table_columns(
+    alloc: Global,
+    width: usize,
+    sets: &[SetExpr],
+    cond: &Cond,
+) -> Result<Vec<usize>, NoMemory>
+    requires sets { AreSimpleSets sets.now }
+    requires cond { cond_is_simple (cond_view cond.now) ≡ true }
+    ensures { IfOk result (λ columns. columns.items
+        ≡ m.used (m.occurs_in_update (map set_view sets.now) (cond_view cond.now)) 0 width) }
+{
+    let mut columns = Vec::new(alloc);
+    for place in 0..width {
+        if occurs_in_sets(sets, 0, place) || occurs_in_cond(cond, 0, place) {
+            columns.push(place)?;
+        }
+    }
+    Ok(columns)
 }
 
 /// Appends a condition if it reads only such columns.
@@ -160,20 +297,22 @@ fn item_look<'a>(
     table: u32,
     before: usize,
     width: usize,
-    cond: &'a Option<Cond>,
+    branch: &'a Branch,
 ) -> Result<Look<'a>, NoMemory>
-    requires { IsSimpleWhere cond.now }
+    requires { IsSimpleBranch branch.now }
     ensures look { IfOk result (λ look. look_view look ≡ record {
       table = table;
       before = before;
-      conds = filter (m.is_about before width) (members_of cond.now);
+      conds = filter (m.is_about before width) (members_of branch.now.cond);
+      columns = m.used (m.occurs_in_branch (branch_view branch.now)) before width;
     }) }
     ensures ready { IfOk result IsReady }
 {
     Ok(Look {
         table,
         before: nulls(alloc, before)?,
-        conds: members(alloc, before, width, cond)?,
+        conds: members(alloc, before, width, &branch.cond)?,
+        columns: branch_columns(alloc, before, width, branch)?,
     })
 }
 
@@ -202,7 +341,7 @@ fn push_branch<'a>(
     branch: &'a Branch,
     looks: &mut Vec<Look<'a>>,
 ) -> Result<(), NoMemory>
-    requires { IsSimpleWhere branch.now.cond }
+    requires { IsSimpleBranch branch.now }
     ensures ready { AreReady looks.old.items → OnOk result (AreReady looks.new.items) }
     ensures looks { OnOk result (map look_view looks.new.items
         ≡ map look_view looks.old.items ++ m.branch_looks catalog.now (branch_view branch.now)) }
@@ -210,7 +349,7 @@ fn push_branch<'a>(
     let mut before: usize = 0;
     for table in branch.from.as_slice() {
         let width = width(catalog, *table);
-        looks.push(item_look(alloc, *table, before, width, &branch.cond)?)?;
+        looks.push(item_look(alloc, *table, before, width, branch)?)?;
         before = end_of(before, width)?;
     }
     Ok(())
@@ -222,7 +361,7 @@ fn query_looks<'a>(
     catalog: &Catalog,
     branches: &'a [Branch],
 ) -> Result<Vec<Look<'a>>, NoMemory>
-    requires { AreSimpleWheres branches.now }
+    requires { AreSimpleBranches branches.now }
     ensures looks { IfOk result (λ looks. map look_view looks.items
         ≡ flat_map (m.branch_looks catalog.now) (map branch_view branches.now)) }
     ensures ready { IfOk result (λ looks. AreReady looks.items) }
@@ -235,12 +374,21 @@ fn query_looks<'a>(
 }
 
 /// The look of an UPDATE or a DELETE.
-fn table_looks(alloc: Global, table: u32, cond: &Cond) -> Result<Vec<Look<'_>>, NoMemory>
-    requires { cond_is_simple (cond_view cond.now) ≡ true }
+fn table_looks<'a>(
+    alloc: Global,
+    catalog: &Catalog,
+    table: u32,
+    sets: &[SetExpr],
+    cond: &'a Cond,
+) -> Result<Vec<Look<'a>>, NoMemory>
+    requires sets { AreSimpleSets sets.now }
+    requires cond { cond_is_simple (cond_view cond.now) ≡ true }
     ensures looks { IfOk result (λ looks. map look_view looks.items
-        ≡ record { table = table; before = 0; conds = cond_view cond.now ∷ [] } ∷ []) }
+        ≡ m.table_look catalog.now table (cond_view cond.now)
+        (m.occurs_in_update (map set_view sets.now) (cond_view cond.now)) ∷ []) }
     ensures ready { IfOk result (λ looks. AreReady looks.items) }
 {
+    let columns = table_columns(alloc, width(catalog, table), sets, cond)?;
     let mut conds = Vec::new(alloc);
     conds.push(cond)?;
     let mut looks = Vec::new(alloc);
@@ -248,12 +396,13 @@ fn table_looks(alloc: Global, table: u32, cond: &Cond) -> Result<Vec<Look<'_>>, 
         table,
         before: Vec::new(alloc),
         conds,
+        columns,
     })?;
     Ok(looks)
 }
 
 /// What a statement looks at: an UPDATE or a DELETE at its table with its WHERE, a query at the table of each item of each FROM, with those
-/// members of the WHERE that are about the item alone.
+/// members of the WHERE that are about the item alone. The columns of an item are those that occur anywhere in its block.
 pub fn looks_of<'a>(
     alloc: Global,
     catalog: &Catalog,
@@ -266,8 +415,10 @@ pub fn looks_of<'a>(
 {
     match stmt {
         Stmt::Insert { .. } => Ok(Vec::new(alloc)),
-        Stmt::Update { table, cond, .. } => table_looks(alloc, *table, cond),
-        Stmt::Delete { table, cond } => table_looks(alloc, *table, cond),
+        Stmt::Update { table, sets, cond } => {
+            table_looks(alloc, catalog, *table, sets.as_slice(), cond)
+        }
+        Stmt::Delete { table, cond } => table_looks(alloc, catalog, *table, &[], cond),
         Stmt::InsertSelect { select, .. } => {
             query_looks(alloc, catalog, select.branches.as_slice())
         }

@@ -1,20 +1,17 @@
 //! Whether a statement looks at a row that was changed.
 
-ghost use Rattle.std.specs.Prelude.{◌≡◌, true, false, map};
+ghost use Rattle.std.specs.Prelude.{◌≡◌, Some, true, false, map, slice_get};
 ghost use Rattle.std.specs.List.{list_any};
 ghost use Rattle.std.specs.Option.{option_map, option_map_or};
-ghost use Rattle.std.specs.Ordering.{is_eq};
-ghost use Rattle.gp_base.specs.Order.{row_cmp};
 ghost use Rattle.gp_machine.specs.Looks as l;
 ghost use Rattle.gp_machine.specs.Precedence as m;
-ghost use Rattle.gp_machine.specs.RowChanges as c;
 ghost use Rattle.gp_serial.specs.Changes.{change_view};
 ghost use Rattle.gp_serial.specs.LookViews.{look_view};
 ghost use Rattle.gp_serial.specs.Meetings.{AreReady, IsReady};
 
 use crate::changes::RowChange;
 use crate::looks::Look;
-use gp_base::Row;
+use gp_base::{Cell, Row};
 use gp_expr::truth_beside;
 use std::cmp::Ordering;
 
@@ -43,30 +40,56 @@ fn sees_side(look: &Look<'_>, side: Option<&Row>) -> bool
     }
 }
 
-/// Whether two rows have the same cells.
-fn is_same(row: &Row, other: &Row) -> bool
-    ensures { result ≡ is_eq (row_cmp row.now other.now) }
+/// Whether both cells are there, and differ.
+fn cell_differs(cell: Option<&Cell>, other: Option<&Cell>) -> bool
+    ensures { result ≡ m.cell_differs (option_map (λ cell. cell.now) cell.entry)
+        (option_map (λ cell. cell.now) other.entry) }
 {
-    row.cmp(other) == Ordering::Equal
+    match (cell, other) {
+        (Some(cell), Some(other)) => cell.cmp(other) != Ordering::Equal,
+        _ => false,
+    }
 }
 
-/// Whether a commit left a row with other cells, or made or deleted it.
-pub(crate) fn differs(change: &RowChange<'_>) -> bool
-    ensures { result ≡ c.differs (change_view change.now) }
+/// Whether two rows differ in a column.
+fn differs_at(row: &Row, other: &Row, column: usize) -> bool
+    ensures { result ≡ m.cell_differs (slice_get row.now column) (slice_get other.now column) }
+{
+    cell_differs(row.cells().get(column), other.cells().get(column))
+}
+
+/// Whether two rows differ in one of these columns.
+fn rows_differ_in(columns: &[usize], row: &Row, other: &Row) -> bool
+    ensures { result ≡ m.side_differs_in columns.now (Some row.now) (Some other.now) }
+{
+    for column in columns {
+        if differs_at(row, other, *column) {
+            return true;
+        }
+    }
+    false
+}
+
+/// Whether a commit left a row with other cells in one of these columns, or made or deleted it.
+fn differs_in(columns: &[usize], change: &RowChange<'_>) -> bool
+    ensures { result
+        ≡ m.side_differs_in columns.now (change_view change.now).before (change_view change.now).after }
 {
     match (change.before, change.after) {
-        (Some(before), Some(after)) => !is_same(before, after),
+        (Some(before), Some(after)) => rows_differ_in(columns, before, after),
         _ => true,
     }
 }
 
-/// Whether a statement that looks so looks at a row that was changed: the conditions are true of its cells before or of those after.
+/// Whether a look meets a change: its conditions are true of the cells before or of those after, and the row is missing before
+/// or after, or differs in a column of the look.
 pub fn meets(look: &Look<'_>, change: &RowChange<'_>) -> bool
     requires { IsReady look.now }
     ensures { result ≡ m.meets (change_view change.now) (look_view look.now) }
 {
     change.table == look.table
-        && (differs(change) && (sees_side(look, change.before) || sees_side(look, change.after)))
+        && (differs_in(&look.columns, change)
+            && (sees_side(look, change.before) || sees_side(look, change.after)))
 }
 
 /// Whether a statement with these looks looks at a row that was changed.
