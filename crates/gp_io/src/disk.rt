@@ -53,7 +53,8 @@ impl<R: Files + Input + Drop> Shelf for DiskShelf<R> {
     }
 
     /// The file is created where it does not exist; its directory has to exist, and new files in it be allowed.
-    /// A regular file is replaced whole or not at all (`whole`), and keeps its mode. What is no regular file, as a device or a pipe, takes the bytes as they come.
+    /// A regular file is replaced whole or not at all (`whole`), with the same permissions; one that may not be written stays. After `Failed` it is as before, or has
+    /// the bytes where only the sync of its directory failed. What is no regular file, as a device or a pipe, takes the bytes as they come.
     fn replace(&mut self, name: &str, bytes: &[u8]) -> Result<(), ShelfStop>
         ensures replaced { OnOk result (⟦<DiskShelf<R> as Shelf>⟧.events self.new
             ≡ ⟦<DiskShelf<R> as Shelf>⟧.events self.old ++ Replaced name.now bytes.now ∷ []) }

@@ -1,6 +1,6 @@
-//! The edge to the operating system. The program calls it here and nowhere else, but for the arguments and the exit status, which are `main`'s. No contract of it says what a file gives or whether a write
-//! arrives, so these 90 lines are read by eye. See that each call is the one that its function is named for, of the names and bytes that it was given, and that nothing else is asked of `rt`. The rest is proved:
-//! the contracts are those of `Calls`, `Durable` and `Output`, which bind each note to the answer, and no other module reaches the fields of a `System`, so none calls the system or changes a note.
+//! The edge to the operating system: it is called here and nowhere else, but for the arguments and the exit status, which are `main`'s. No contract says what a file
+//! gives or whether a write arrives, so these 91 lines are read by eye: that each call is the one that its function is named for, of the names and bytes that it got,
+//! and that nothing else is asked of `rt`. The rest is proved: `Calls`, `Durable` and `Output` bind each note to the answer, and no other module reaches the fields.
 mod system;
 
 use crate::calls::{Calls, Output};

@@ -88,6 +88,7 @@ fn target_of(
     }
     match path {
         Ok(path) if !is_lent(name) => Ok(path.into_string()),
+        Err(error) if error.kind() == ErrorKind::OutOfMemory => Err(ShelfStop::NoMemory),
         _ => Err(ShelfStop::Failed),
     }
 }

@@ -1,7 +1,7 @@
 //! Files and an output as traits, so that a contract can state what a call reads and writes.
 //!
 //! In reading order:
-//! - `edge` is where the operating system is called: 90 lines, which are read by eye, and all else is proved over them. `calls` has their contracts.
+//! - `edge` is where the operating system is called: 91 lines, which are read by eye, and all else is proved over them. `calls` has their contracts.
 //! - `whole` replaces a file whole or not at all. [`files_are_replaced_whole`] says what its steps do to files.
 //! - [`Shelf`] and [`Sink`] are the traits. Their contracts say what each answer means.
 //! - [`ShelfStop`] and [`SinkStop`] are the reasons why a call stopped.
