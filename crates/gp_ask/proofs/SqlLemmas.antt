@@ -47,7 +47,9 @@ use Rattle.gp_sql.specs.Spelling.{expressions_text, query_text, with_text}
 use Rattle.gp_sql.specs.Sql.{With}
 use Rattle.gp_sql.specs.SqlCells.{sql_rows}
 use Rattle.gp_sql.specs.declared.cell_type.CellType.{CellType}
-use Rattle.gp_sql.specs.Types.{AreOf, column_types, is_typed}
+use Rattle.gp_sql.specs.CellTypes.{AreOf, column_types}
+use Rattle.gp_sql.specs.TypedQueries.{is_well_typed}
+use Rattle.gp_sql.specs.Types.{is_typed}
 use Rattle.gp_sql.specs.VersionTables.{AllSpansFit, SpansFit, SpanFits, held_rows, version_tables}
 use Rattle.gp_versions.specs.declared.span.Span.{Span}
 use Rattle.gp_versions.specs.Spans.{rows_at, row_of, spans_at, holds_at}
@@ -170,6 +172,7 @@ pub record SqlLaws (entries : List Entry) : Type 0 where
   pub spelled : (tables : List Table) (program : PlainProgram) → list_all (λ (own : Table). list_all (λ (column : table.Column). is_name column.name) own.cols) tables ≡ true
       → is_typed tables program ≡ true → is_spellable tables program ≡ true → length (with_text tables (program_query tables program)) < 2 ^ 63
       → is_spelled tables (program_query tables program) ≡ true
+  pub queries : (tables : List Table) (program : PlainProgram) → is_typed tables program ≡ true → is_well_typed tables (program_query tables program) ≡ true
   pub typed : (point : y.Point) (query : y.Query) (select : Select) → query_is_valid query ≡ true → checked_query (tables_in entries) query ≡ Ok select → log_refusal entries point ≡ None
       → is_typed (tables_in entries) (merged_at false entries point select) ≡ true
 
@@ -185,6 +188,7 @@ module _ (entries : List Entry) (is : IsExplained entries) (readable : AreReadab
       program_spelled tables program (merged_at_shaped entries is.named.named is.fit false select fits point known) (merged_at_range entries is.small is.fit false select fits few point known) in record {
         query = program_query tables program;
         is = refl;
+        typed = laws.queries tables program typed;
         spelled = λ short. laws.spelled tables program (all-named entries readable) typed spellable short;
         means = λ stored are.
             laws.gives tables (table_spans stored) program are.typed typed

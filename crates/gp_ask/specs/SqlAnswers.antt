@@ -1,5 +1,5 @@
--- Part of the statement: what a text of SQL says that answers a question. It is the text of one query of SQL, which is spelled. Over any tables of row versions
--- whose rows have cells of their columns' types, whatever fills them, the query gives the rows of the question's query over the state that the logged
+-- Part of the statement: what a text of SQL says that answers a question. It is the text of one query of SQL, which is spelled and has types. Over any tables of row
+-- versions whose rows have cells of their columns' types, whatever fills them, the query gives the rows of the question's query over the state that the logged
 -- statements lead to from the versions that these rows hold.
 use Rattle.std.specs.Prelude.{◌≡◌, ℕ, ◌^◌, ◌<◌, false, true, List, length, IfOk}
 use Rattle.std.specs.List.{AllByRecursion}
@@ -19,6 +19,7 @@ use Rattle.gp_sql.specs.Spelled.{is_spelled}
 use Rattle.gp_sql.specs.Spelling.{with_text}
 use Rattle.gp_sql.specs.Sql.{With}
 use Rattle.gp_sql.specs.SqlCells.{sql_rows}
+use Rattle.gp_sql.specs.TypedQueries.{is_well_typed}
 use Rattle.gp_sql.specs.VersionTables.{AllSpansFit, version_tables}
 use Rattle.gp_versions.specs.declared.span.Span.{Span}
 use Rattle.gp_versions.specs.Spans.{rows_at}
@@ -34,10 +35,12 @@ pub record AreStored (log : List Entry) (stored : List (List Span)) : Type 0 whe
   pub tables : length stored ≡ length (tables_in log)
   pub typed : AllSpansFit (tables_in log) (table_spans stored)
 
--- the text asks for the rows of a query over a state of a log; it spells one query, where it has fewer than 2 ^ 63 bytes, as every text in memory has
+-- the text asks for the rows of a query over a state of a log: by one query that has types over the tables, and is spelled, where the text has fewer than 2 ^ 63
+-- bytes, as every text in memory has
 pub record Asks (entries : List Entry) (point : y.Point) (select : Select) (text : List ℕ) : Type 0 where
   pub query : With
   pub is : with_text (tables_in entries) query ≡ text
+  pub typed : is_well_typed (tables_in entries) query ≡ true
   pub spelled : length text < 2 ^ 63 → is_spelled (tables_in entries) query ≡ true
   pub means : (stored : List (List Span)) → AreStored entries stored
       → rows_of (version_tables (tables_in entries) (table_spans stored)) query ≡ sql_rows (cells_of (answer monomials select (at_point monomials entries point (held_by stored))))

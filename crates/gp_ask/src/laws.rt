@@ -72,7 +72,10 @@ use gp_machine::{
     unstopped_histories_answer_their_questions,
 };
 use gp_semiring::{Bool, Cost, Count, Level, Poly, PosBool, Semiring};
-use gp_sql::{queries_give_the_rows_of_programs, queries_of_programs_are_spelled};
+use gp_sql::{
+    queries_give_the_rows_of_programs, queries_of_programs_are_spelled,
+    queries_of_programs_are_typed,
+};
 use gp_typed::well_formed_dumps_are_typed;
 use gp_versions::a_version_has_one_row_of_an_identity;
 use gp_whatif::{
@@ -280,9 +283,9 @@ pub fn programs_explain_their_questions()
     logs_keep_their_sessions()
 }
 
-/// Every question that a file asks of a well-formed dump in SQL is answered by a query that is spelled and gives its rows, over any
-/// tables of row versions whose rows have cells of their columns' types: the merged program has types, since the log and the query were
-/// checked.
+/// Every question that a file asks of a well-formed dump in SQL is answered by a query that is spelled, has types and gives its rows,
+/// over any tables of row versions whose rows have cells of their columns' types: the merged program has types, since the log and the
+/// query were checked.
 pub fn queries_ask_their_questions()
     ensures { (bytes file : List ℕ) (dump : Dump) (questions : List ReadQuestion)
         → WellFormed bytes dump → AreQuestions file questions
@@ -290,6 +293,7 @@ pub fn queries_ask_their_questions()
 {
     queries_give_the_rows_of_programs();
     queries_of_programs_are_spelled();
+    queries_of_programs_are_typed();
     well_formed_dumps_are_typed()
 }
 

@@ -4,7 +4,8 @@ use Rattle.gp_sql.specs.declared.cell_type.CellType.{CellType}
 use Rattle.gp_sql.specs.declared.cell_type.CellType.TheVariants.{Id, Mark}
 use Rattle.gp_sql.specs.declared.query_types.StepType.{StepType}
 use Rattle.gp_sql.specs.StepLists.{types_after}
-use Rattle.gp_sql.specs.Types.{StepTypes, column_types, common, common_types, scan_types, type_at, with_first, with_types}
+use Rattle.gp_sql.specs.CellTypes.{column_types}
+use Rattle.gp_sql.specs.Types.{StepTypes, common, common_types, scan_types, type_at, with_first, with_types}
 use Rattle.gp_sql.proofs.ListLemmas.{drop-get, one-more}
 
 pub type-behind : (n : ℕ) (types : List CellType) → 1 ≤ n → type_at n types ≡ slice_get types (n - 1)

@@ -8,7 +8,7 @@ use Rattle.gp_sql.specs.NamedQueries.{columns_of, stored_terms}
 use Rattle.gp_sql.specs.Sql as s
 use Rattle.gp_sql.specs.Sql.{Alias, Column, Source, Terms}
 use Rattle.gp_sql.specs.SqlCells.{sql_rows}
-use Rattle.gp_sql.specs.Types.{AreOf}
+use Rattle.gp_sql.specs.CellTypes.{AreOf}
 use Rattle.gp_sql.specs.VersionTables.{stored_names}
 
 -- ---- relations whose columns are c1, c2, ..

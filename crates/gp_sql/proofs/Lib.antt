@@ -20,5 +20,9 @@ pub mod TermLemmas
 pub mod TreesAgain
 pub mod TruthLemmas
 pub mod TypeLemmas
+pub mod TypedBlocks
+pub mod TypedColumns
+pub mod TypedPrograms
+pub mod TypedTerms
 pub mod WithAgain
 pub mod WriterLemmas

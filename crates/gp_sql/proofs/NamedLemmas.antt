@@ -8,7 +8,8 @@ use Rattle.gp_sql.specs.Sql.{NamedQuery, Source}
 use Rattle.gp_sql.specs.SqlCells.{sql_rows}
 use Rattle.gp_sql.specs.Meaning.{Relation, query_relation, relations_after, rows_of, with_relation}
 use Rattle.gp_sql.specs.NamedQueries.{Operand, Translated, TranslatedSteps, is_projection, known_types, operand, program_query, published_query, translated, translated_steps, types_of, written_query}
-use Rattle.gp_sql.specs.Types.{AreOf, selected_types, projected_types, product_types, StepTypes, query_types, no_types, with_types, steps_types, steps_are_typed, is_typed}
+use Rattle.gp_sql.specs.CellTypes.{AreOf}
+use Rattle.gp_sql.specs.Types.{selected_types, projected_types, product_types, StepTypes, query_types, no_types, with_types, step_is_typed, steps_types, steps_are_typed, is_typed}
 use Rattle.gp_sql.specs.VersionTables.{version_tables, AllSpansFit, held_rows}
 use Rattle.gp_sql.proofs.ColumnLemmas.{relation_with}
 use Rattle.gp_sql.proofs.PublishLemmas.{is-published, published-value, written-value}
@@ -28,6 +29,11 @@ product-some (Some types) (Some others) e = (refl, refl)
 product-some (Some types) None e = absurd cc
 product-some None y e = absurd cc
 
+pub step-some : (earlier x : Option (List CellType)) → step_is_typed earlier x ≡ true → is_some x ≡ true
+step-some None None e = absurd cc
+step-some (Some types) None e = absurd cc
+step-some earlier (Some types) e = refl
+
 rows-of : (x : Option (List CellType)) (rows : List (List Cell)) → is_some x ≡ true → HaveTypes x rows → AllByRecursion (λ row. AreOf row (known_types x)) rows
 rows-of None rows some h = absurd cc
 rows-of (Some types) rows some h = h
@@ -38,12 +44,12 @@ abbrev Relations : Type 0
 Relations = Source → Relation
 
 -- what is there before the query with this number: all but the numbered queries from it on
-abbrev IsOld : ℕ → Source → Type 0
+abbrev pub IsOld : ℕ → Source → Type 0
 IsOld n (s.versions table) = Unit {0}
 IsOld n (s.step j) = Unit {0}
 IsOld n (s.query m) = m < n
 
-old-later : (n next : ℕ) (source : Source) → n ≤ next → IsOld n source → IsOld next source
+pub old-later : (n next : ℕ) (source : Source) → n ≤ next → IsOld n source → IsOld next source
 old-later n next (s.versions table) low old = tt
 old-later n next (s.step j) low old = tt
 old-later n next (s.query m) low old = omega (arith, low, old)
@@ -269,8 +275,8 @@ module _ (tables : List Table) (spans : ℕ → List Span) (fit : AllSpansFit ta
       let x = query_types tables types first.query in
       let own = meaning rows (held_rows spans) first.query in
       let a = translated tables types (types_of tables types first.query) first.query n in
-      let parts = and_parts (is_some x) (steps_are_typed tables others (with_types first.j x types)) typed in
-      let is = translated-value tables spans fit types rows have first.query (types_of tables types first.query) n found base parts.0 in
+      let parts = and_parts (step_is_typed (types first.j) x) (steps_are_typed tables others (with_types first.j x types)) typed in
+      let is = translated-value tables spans fit types rows have first.query (types_of tables types first.query) n found base (step-some (types first.j) x parts.0) in
       let named : NamedQuery = record { name = s.step first.j; materialized = true; query = a.query } in
       let after : Relations = relations_after a.before found in
       let next : Relations = with_relation (s.step first.j) (query_relation after a.query) after in

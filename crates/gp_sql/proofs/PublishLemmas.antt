@@ -14,7 +14,8 @@ use Rattle.gp_sql.specs.SqlCells.{sql_cell, sql_row, sql_rows}
 use Rattle.gp_sql.specs.Meaning.{Relation, Scope, cell_named, cell_or, has_row, query_relation, test_truth}
 use Rattle.gp_sql.specs.NamedQueries as n
 use Rattle.gp_sql.specs.NamedQueries.{is_missing, published_query, written_query}
-use Rattle.gp_sql.specs.Types.{AreOf, IsOf, are_published, is_id, is_mark, published_types, common_types, type_at}
+use Rattle.gp_sql.specs.CellTypes.{AreOf, IsOf}
+use Rattle.gp_sql.specs.Types.{are_published, is_id, is_mark, published_types, common_types, type_at}
 use Rattle.gp_sql.proofs.ColumnLemmas.{alone, numbered_names, relation_with}
 use Rattle.gp_sql.proofs.QueryLemmas.{both-width, width}
 use Rattle.gp_sql.proofs.SourceLemmas.{all-alone, any_agree, block-alone, has-any, kept_agree, rows_over}

@@ -12,7 +12,8 @@ use Rattle.gp_sql.specs.SqlCells.{sql_cell, sql_row, sql_rows}
 use Rattle.gp_sql.specs.Meaning.{Relation, Scope, cell_named, cell_or, term_values, test_truth, names_from, query_relation}
 use Rattle.gp_sql.specs.NamedQueries.{from, all_of, columns_of, crossed, given_query, holding, known_types, scanned, stored_terms}
 use Rattle.gp_sql.specs.Translation.{cells_terms, cond_test, exprs_terms, first_due}
-use Rattle.gp_sql.specs.Types.{AreOf, IsOf, cell_type, column_types, common, common_types, cond_is_typed, both_types, expr_type, exprs_types, kind_type, product_types, projected_types, row_types, rows_types, scan_types, selected_types, with_first}
+use Rattle.gp_sql.specs.CellTypes.{AreOf, IsOf, column_types, kind_type}
+use Rattle.gp_sql.specs.Types.{cell_type, common, common_types, cond_is_typed, both_types, expr_type, exprs_types, product_types, projected_types, row_types, rows_types, scan_types, selected_types, with_first}
 use Rattle.gp_sql.specs.VersionTables.{SpanFits, SpansFit, stored_names, version_row}
 use Rattle.gp_sql.proofs.ColumnLemmas.{alone, are-long, columns-value, named-cell, numbered_names, relation_with, stored-cell, stored-value}
 use Rattle.gp_sql.proofs.SourceLemmas.{all-alone, all-rows, block-alone, block-two, flat_agree, kept_agree, made-alone, rows_of_two, rows_over, two}

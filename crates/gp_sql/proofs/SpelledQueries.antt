@@ -13,11 +13,12 @@ use Rattle.gp_sql.specs.Spelling.{column_name, name_of, term_text, named_text, o
 use Rattle.gp_sql.specs.Sql as s
 use Rattle.gp_sql.specs.Sql.{Alias, Source, FromItem, Terms, Where, Block, Query, NamedQuery, With}
 use Rattle.gp_sql.specs.Translation.{cond_test, exprs_terms, cells_terms}
-use Rattle.gp_sql.specs.Types.{StepTypes, cond_is_typed, with_first, exprs_types, row_types, common_types, both_types, rows_types, column_types, scan_types, selected_types, projected_types, product_types, are_published, published_types, query_types, no_types, with_types, steps_types, steps_are_typed, is_typed}
+use Rattle.gp_sql.specs.CellTypes.{column_types}
+use Rattle.gp_sql.specs.Types.{StepTypes, cond_is_typed, with_first, exprs_types, row_types, common_types, both_types, rows_types, scan_types, selected_types, projected_types, product_types, are_published, published_types, query_types, no_types, with_types, step_is_typed, steps_types, steps_are_typed, is_typed}
 use Rattle.gp_sql.proofs.PublishLemmas.{is-published}
 use Rattle.gp_sql.proofs.QueryLemmas.{both-parts}
 use Rattle.gp_sql.proofs.SpelledTerms.{fits, fits-u32, fits-next, three, cond-spelled, exprs-spelled, cells-spelled}
-use Rattle.gp_sql.proofs.NamedLemmas.{product-some, projected-some, selected-some}
+use Rattle.gp_sql.proofs.NamedLemmas.{product-some, projected-some, selected-some, step-some}
 
 -- ---- every query of a program that has a text has a column
 
@@ -457,9 +458,9 @@ module _ (tables : List Table) where
         let q = and_parts (step_is_spellable tables first) (list_all (step_is_spellable tables) others) is in
         let r = three (is_u32 first.j) (table_is_spellable tables first.table) (query_is_spellable tables first.query) q.0 in
         let x = query_types tables types first.query in
-        let parts = and_parts (is_some x) (steps_are_typed tables others (with_types first.j x types)) typed in
+        let parts = and_parts (step_is_typed (types first.j) x) (steps_are_typed tables others (with_types first.j x types)) typed in
         let own = translated tables types (types_of tables types first.query) first.query n in
-        let one = translated-good types wide first.query (types_of tables types first.query) n r.2 parts.0 in
+        let one = translated-good types wide first.query (types_of tables types first.query) n r.2 (step-some (types first.j) x parts.0) in
         let rest = translated_steps tables (with_types first.j x types) others own.next in
         let more = steps-good others (with_types first.j x types) own.next (with-wide tables first.j x types (query-wide tables types wide first.query r.2) wide) q.1 parts.1 in
         let step : NamedQuery = record { name = s.step first.j; materialized = true; query = own.query } in

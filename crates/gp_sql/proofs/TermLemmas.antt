@@ -12,7 +12,8 @@ use Rattle.gp_sql.specs.Sql.{Source, Term, Test}
 use Rattle.gp_sql.specs.SqlCells.{sql_cell, sql_row}
 use Rattle.gp_sql.specs.Meaning.{Relation, Scope, joined_cells, cell_named, cell_or, term_value, joined_value, test_truth}
 use Rattle.gp_sql.specs.Translation.{type_or_null, unless_null, cell_term, literal, bare, in_chain, id_prefix, expr_term, other_parts, cond_test}
-use Rattle.gp_sql.specs.Types.{IsOf, AreOf, are_u32, cell_type, common, is_numeric, type_at, negation_type, arithmetic_type, case_type, is_comparable, are_comparable, is_id, expr_type, cond_is_typed, parts_are_ids}
+use Rattle.gp_sql.specs.CellTypes.{IsOf, AreOf, are_u32}
+use Rattle.gp_sql.specs.Types.{cell_type, common, is_numeric, type_at, negation_type, arithmetic_type, case_type, is_comparable, are_comparable, is_id, expr_type, cond_is_typed, parts_are_ids}
 use Rattle.gp_sql.proofs.ColumnLemmas.{alone, are-long, named-cell, numbered_names}
 use Rattle.gp_sql.proofs.IdentityTexts.{concat-onto}
 use Rattle.gp_sql.proofs.TypeLemmas.{HasType, expr-has, numbers-of, negated-of, of-null, column-has}

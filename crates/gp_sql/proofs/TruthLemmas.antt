@@ -13,7 +13,7 @@ use Rattle.gp_expr.specs.Values as v
 use Rattle.gp_versions.specs.Spans.{is_before_end}
 use Rattle.gp_sql.specs.declared.cell_type.CellType.TheVariants.{Id, Mark}
 use Rattle.gp_sql.specs.SqlCells.{sql_cell}
-use Rattle.gp_sql.specs.Types.{IsOf}
+use Rattle.gp_sql.specs.CellTypes.{IsOf}
 use Rattle.gp_sql.specs.VersionTables.{end_cell}
 use Rattle.gp_sql.proofs.IdentityTexts.{texts-same}
 

@@ -1,3 +1,4 @@
+pub mod CellTypes
 pub mod ItemTexts
 pub mod Meaning
 pub mod NamedQueries
@@ -10,6 +11,7 @@ pub mod SqlCells
 pub mod StepLists
 pub mod TableTexts
 pub mod Translation
+pub mod TypedQueries
 pub mod Types
 pub mod VersionTables
 pub mod WrittenQueries

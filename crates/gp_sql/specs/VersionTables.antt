@@ -14,7 +14,7 @@ use Rattle.gp_algebra.specs.Statements.{width_of}
 use Rattle.gp_sql.specs.Meaning.{Relation}
 use Rattle.gp_sql.specs.Sql as s
 use Rattle.gp_sql.specs.Sql.{Column, Source}
-use Rattle.gp_sql.specs.Types.{AreOf, column_types, numbers_fit}
+use Rattle.gp_sql.specs.CellTypes.{AreOf, column_types, numbers_fit}
 
 -- the version at which a row ends, or NULL
 abbrev pub end_cell : Option ℕ → Cell

@@ -16,6 +16,7 @@ ghost use Rattle.gp_sql.specs.Spelled.{HaveOwnNames, SpellsQuery, is_spelled};
 ghost use Rattle.gp_sql.specs.Spelling.{with_text};
 ghost use Rattle.gp_sql.specs.Sql.{With};
 ghost use Rattle.gp_sql.specs.SqlCells.{sql_rows};
+ghost use Rattle.gp_sql.specs.TypedQueries.{is_well_typed};
 ghost use Rattle.gp_sql.specs.Types.{is_typed};
 ghost use Rattle.gp_sql.specs.VersionTables.{AllSpansFit, held_rows, version_tables};
 
@@ -33,6 +34,13 @@ pub fn queries_give_the_rows_of_programs()
         → HaveSameRowsOn (program_scans program) env (held_rows spans)
         → IsPermutation (sql_rows (program_meaning env program))
         (rows_of (version_tables tables spans) (program_query tables program)) }
+{}
+
+/// The query of a program that has types has types too, so engines take it: each name is found once, and no NULL, operator or UNION ALL
+/// has to guess a type.
+pub fn queries_of_programs_are_typed()
+    ensures { (tables : List Table) (program : PlainProgram) → is_typed tables program ≡ true
+        → is_well_typed tables (program_query tables program) ≡ true }
 {}
 
 /// A text spells one query, where no two tables have the same name, and no two columns of a table, as in every catalogue.

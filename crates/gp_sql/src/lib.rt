@@ -7,10 +7,10 @@
 //! In reading order: `types.rt` and `query_types.rt` find the types of columns. `cell_writer.rt`, `term_writer.rt` and
 //! `item_writer.rt` append values; `name.rt`, `block_writer.rt`, `scan_writer.rt`, `values_writer.rt` and `publish_writer.rt` the
 //! queries of operators; `query_writer.rt` whole queries, and `program_writer.rt` those of programs. `table_writer.rt` writes the
-//! tables. In `specs/`, `Sql` is the tree of a query and `Meaning` what it gives; `Types`, `Translation` and `NamedQueries` make the
-//! tree of a program, and `Spelling` its text, of which `Spelled` trees have one each; `SqlCells` and `VersionTables` relate its rows to
-//! those of programs, and `TableTexts` is the text of the tables. `Translation` and `NamedQueries` belong to the contract of
-//! `write_query`, the others named here to the statement, and the rest to the contracts of the writers.
+//! tables. In `specs/`, `Sql` is the tree of a query, `TypedQueries` which trees engines accept, and `Meaning` the rows that a query
+//! gives; `Spelling` is its text, of which `Spelled` trees have one each; `CellTypes`, `SqlCells` and `VersionTables` relate its rows to
+//! those of programs, and `TableTexts` is the text of the tables. `Types`, `Translation` and `NamedQueries` make the tree of a program
+//! and belong to the contract of `write_query`, the others named here to the statement, and the rest to the contracts of the writers.
 //!
 //! ```text
 //! write_tables(alloc, &catalog, &versions, &mut out)?; // CREATE TABLE r_versions (..); INSERT INTO r_versions VALUES (..);
@@ -36,7 +36,8 @@ mod values_writer;
 
 pub use cell_type::CellType;
 pub use laws::{
-    queries_give_the_rows_of_programs, queries_of_programs_are_spelled, texts_spell_one_query,
+    queries_give_the_rows_of_programs, queries_of_programs_are_spelled,
+    queries_of_programs_are_typed, texts_spell_one_query,
 };
 pub use program_writer::write_query;
 pub use table_writer::write_tables;

@@ -6,6 +6,7 @@ ghost use Rattle.gp_algebra.specs.Plain as p;
 ghost use Rattle.gp_algebra.specs.PlainViews.{query_view};
 ghost use Rattle.gp_sql.specs.NamedQueries.{known_types};
 ghost use Rattle.gp_sql.specs.StepLists.{types_after};
+ghost use Rattle.gp_sql.specs.CellTypes.{kind_type};
 ghost use Rattle.gp_sql.specs.Types as t;
 
 use crate::cell_type::CellType;
@@ -66,7 +67,7 @@ fn step_types(alloc: Global, steps: &[StepType], j: u32) -> Result<Option<Types>
 
 /// The type of a column of a table.
 fn kind_type(kind: Kind) -> CellType
-    ensures { result ≡ t.kind_type kind }
+    ensures { result ≡ kind_type kind }
 {
     match kind {
         Kind::Int => CellType::Int,
@@ -77,7 +78,7 @@ fn kind_type(kind: Kind) -> CellType
 /// The types of the columns of a table.
 fn column_types(alloc: Global, columns: &[Column]) -> Result<Types, NoMemory>
     ensures { IfOk result (λ types.
-        types ≡ map (λ (column : Column). t.kind_type column.kind) columns.now) }
+        types ≡ map (λ (column : Column). kind_type column.kind) columns.now) }
 {
     let mut types = Sequence::new(alloc);
     for column in columns {

@@ -1,5 +1,5 @@
 -- The programs of states have types, if all statements and the query have.
-use Rattle.gp_typed.proofs.Prelude.{◌≡◌, ◌≤◌, ℕ, zero, suc, Bool, true, false, cond, List, [], ◌∷◌, ◌++◌, map, Some, None, refl, sym, ap, subst, ◌∙◌, arith, Option, is_some, ◌&&◌, ◌==◌, nat_lt, slice_get, AllByRecursion, eqb-true, none-some, same_Some, Table, left_true, none_parts, right_true, Query, is_there, select_fits, statement_fits, Select, Statement, delete, insert, insert_select, read, target, update, width_of, Entry, Created, Began, Ran, Committed, Ended, log_refusal, tables_in, rewritten, merged_at, CellType, is_typed, scan_types, select_is_typed, statement_is_typed, statements_are_typed}
+use Rattle.gp_typed.proofs.Prelude.{◌≡◌, ◌≤◌, ℕ, zero, suc, Bool, true, false, cond, List, [], ◌∷◌, ◌++◌, map, Some, None, refl, sym, ap, subst, ◌∙◌, arith, Option, is_some, ◌&&◌, ◌==◌, nat_lt, slice_get, AllByRecursion, eqb-true, none-some, option_map_or, same_Some, Table, left_true, none_parts, right_true, Query, is_there, select_fits, statement_fits, Select, Statement, delete, insert, insert_select, read, target, update, width_of, Entry, Created, Began, Ran, Committed, Ended, log_refusal, tables_in, rewritten, merged_at, CellType, is_typed, scan_types, select_is_typed, statement_is_typed, statements_are_typed}
 use Rattle.std.specs.Prelude.{is_none, nat_le, not, length}
 use Rattle.std.proofs.lemmas.Bool.{leb-true}
 use Rattle.std.proofs.lemmas.Bool.Decides.{nat_tests}
@@ -19,6 +19,8 @@ use Rattle.gp_compose.specs.StepForms.{is_target, steps_of}
 use Rattle.gp_compose.proofs.StepLists.{AreWithin, Stands, here, stands_behind, stands_front, stands_table, within_append}
 use Rattle.gp_prov.specs.ToPlain.{plain_program, plain_step}
 use Rattle.gp_reenact.proofs.ReplayLemmas.{planned_is_built}
+use Rattle.gp_sql.specs.Types.{are_whole}
+use Rattle.gp_sql.proofs.TypedBlocks.{scan-whole}
 use Rattle.gp_typed.proofs.JoinedTypes.{scan_there}
 use Rattle.gp_typed.proofs.MergedTypes.{AreTyped, StepIsTyped, merged_is_typed}
 use Rattle.gp_typed.proofs.RewrittenTypes.{IsContents, at_steps, publish_contents, query_is_typed, rewritten_contents, scan_contents, step_contents}
@@ -133,7 +135,7 @@ module _ (catalogue : List Table) where
                     let types = scan_there catalogue own there in
                     let own_types = ap (λ place. scan_types (slice_get catalogue place)) place ∙ types in
                     let query = rewritten_contents catalogue of_step (current_before log t k) (λ place there. before_has k place (omega (arith, less)) there) t (suc k) few_t (omega (arith, less, few_n)) own statement is fit.0 fit.1 in
-                    ((query.types ∙ sym own_types, ap (λ (o : Option (List CellType)). is_some o) own_types), tt)
+                    ((query.types ∙ sym own_types, ap (λ (o : Option (List CellType)). option_map_or are_whole o false) own_types ∙ scan-whole (slice_get catalogue own) _ types), tt)
 
     -- ---- programs
 

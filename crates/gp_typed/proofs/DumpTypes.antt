@@ -22,7 +22,7 @@ use Rattle.gp_dump.specs.Dumps.{Dump, fits_columns, is_of_kind}
 use Rattle.gp_dump.proofs.FittingTables.{statements_of_dumps}
 use Rattle.gp_dump.specs.WholeDumps as w
 use Rattle.gp_dump.specs.WholeDumps.{AreInPlace, AreOfTables, IsDump}
-use Rattle.gp_sql.specs.Types.{AreOf, IsOf, all_numbers_fit, numbers_fit}
+use Rattle.gp_sql.specs.CellTypes.{AreOf, IsOf, all_numbers_fit, numbers_fit}
 use Rattle.gp_sql.specs.VersionTables.{AllSpansFit, SpanFits}
 use Rattle.gp_typed.proofs.CheckedTypes.{checked_is_typed, checked_query_is_typed}
 use Rattle.gp_typed.proofs.ComposedTypes.{merged_at_is_typed}

@@ -1,17 +1,25 @@
 -- Merged programs have types, if each step of the program has the types of its table. These are given for each step at once, so a step in the place of its use
 -- changes no type.
-use Rattle.gp_typed.proofs.Prelude.{◌≡◌, ℕ, Bool, true, false, cond, List, [], ◌∷◌, map, Some, None, refl, sym, ap, ◌∙◌, Option, is_some, ◌&&◌, ◌==◌, AllByRecursion, and_parts, eqb-true, Table, Expr, Cond, substituted_each, CellType, cond_is_typed, exprs_types, both_types, selected_types, projected_types, product_types, published_types, StepTypes, query_types, is_typed, substituted-types}
+use Rattle.gp_typed.proofs.Prelude.{◌≡◌, ℕ, Bool, true, false, cond, List, [], ◌∷◌, map, Some, None, refl, sym, ap, ◌∙◌, Option, is_some, ◌&&◌, ◌==◌, AllByRecursion, and_parts, eqb-true, ltb-true, nat_lt, option_map_or, Table, Expr, Cond, substituted_each, CellType, cond_is_typed, exprs_types, both_types, selected_types, projected_types, product_types, published_types, StepTypes, query_types, is_typed, substituted-types}
 use Rattle.std.specs.Prelude.{◌||◌}
-use Rattle.gp_base.proofs.SmallLemmas.{eq_turned}
+use Rattle.gp_base.proofs.SmallLemmas.{eq_turned, not_eq}
 use Rattle.gp_expr.specs.Expressions as e
 use Rattle.gp_algebra.specs.Plain.{Plain, scan, step, select, project, product, union, given, publish, PlainStep, PlainProgram}
 use Rattle.gp_algebra.specs.WellBuilt.{is_among, is_above, query_is_built, rows_are_built, step_is_built, steps_are_built, numbers_after, is_well_built}
 use Rattle.gp_merge.specs.Merging.{inlined, stays, settled, is_small, selected, projected, rebuilt, merged}
 use Rattle.gp_merge.specs.MergingForms.{program_inlined}
-use Rattle.gp_sql.specs.Types.{no_types, with_types, steps_types, steps_are_typed}
+use Rattle.gp_sql.specs.Types.{are_whole, no_types, with_types, step_is_typed, steps_types, steps_are_typed}
 
 abbrev Known : Option (List CellType) → Type 0
 Known types = is_some types ≡ true
+
+-- none of them is the type of NULL
+abbrev pub IsWhole : Option (List CellType) → Type 0
+IsWhole types = option_map_or are_whole types false ≡ true
+
+whole_known : (o : Option (List CellType)) → IsWhole o → Known o
+whole_known None whole = absurd cc
+whole_known (Some types) whole = refl
 
 -- ---- what has types is made of what has types
 
@@ -129,7 +137,7 @@ module _ (tables : List Table) (steps : StepTypes) where
 
   -- a step has its types
   abbrev pub StepIsTyped : PlainStep → Type 0
-  StepIsTyped s = (typing s.query ≡ steps s.j) × Known (steps s.j)
+  StepIsTyped s = (typing s.query ≡ steps s.j) × IsWhole (steps s.j)
 
   abbrev pub AreTyped : List PlainStep → Plain → Type 0
   AreTyped own last = AllByRecursion StepIsTyped own × Known (typing last)
@@ -141,7 +149,7 @@ module _ (tables : List Table) (steps : StepTypes) where
   each_same : (put : Plain → Plain) → ((query : Plain) → Known (typing query) → typing (put query) ≡ typing query) → (own : List PlainStep)
       → AllByRecursion StepIsTyped own → AllByRecursion StepIsTyped (map (λ (s : PlainStep). record s { query = put s.query }) own)
   each_same put same [] are = tt
-  each_same put same (s ∷ own) are = ((same s.query (known_same _ _ are.0.0 are.0.1) ∙ are.0.0, are.0.1), each_same put same own are.1)
+  each_same put same (s ∷ own) are = ((same s.query (known_same _ _ are.0.0 (whole_known (steps s.j) are.0.1)) ∙ are.0.0, are.0.1), each_same put same own are.1)
 
   settled_typed : (own : List PlainStep) (last : Plain) → AreTyped own last → AreTyped (settled own last).steps (settled own last).last
   settled_typed [] last are = are
@@ -213,24 +221,43 @@ module _ (tables : List Table) (steps : StepTypes) where
       go true c same other among = is ∙ sym (ap steps (eqb-true j n same))
       go false c same other among = agree j (sym (ap (λ t. t || is_among earlier j) (other same)) ∙ among)
 
+  -- no step has a number that is not there
+  abbrev IsFresh : List ℕ → StepTypes → Type 0
+  IsFresh earlier own = (j : ℕ) → is_among earlier j ≡ false → own j ≡ None
+
+  fresh_more : (earlier : List ℕ) (own : StepTypes) (n : ℕ) (types : Option (List CellType)) → IsFresh earlier own → IsFresh (n ∷ earlier) (with_types n types own)
+  fresh_more earlier own n types fresh j absent = go (n == j) (is_among earlier j) refl refl absent
+    where
+      go : (b c : Bool) → (n == j) ≡ b → is_among earlier j ≡ c → (b || c) ≡ false → cond (j == n) types (own j) ≡ None
+      go true c same is absent = absurd cc
+      go false true same is absent = absurd cc
+      go false false same is absent = ap (λ b. cond b types (own j)) (eq_turned n j same) ∙ fresh j is
+
+  above_absent : (earlier : List ℕ) (j : ℕ) → is_above earlier j ≡ true → is_among earlier j ≡ false
+  above_absent [] j above = refl
+  above_absent (i ∷ earlier) j above =
+      let p = and_parts (nat_lt i j) (is_above earlier j) above in
+      λ k. not_eq i j (ltb-true i j p.0) k || above_absent earlier j p.1 k
+
   abbrev IsTyped : List ℕ → StepTypes → List PlainStep → Plain → Type 0
   IsTyped earlier own rest last =
       (steps_are_typed tables rest own && is_some (query_types tables (steps_types tables rest own) last)) ≡ true
 
-  typed_behind : (earlier : List ℕ) (own : StepTypes) → Agree earlier own → (rest : List PlainStep) (last : Plain)
+  typed_behind : (earlier : List ℕ) (own : StepTypes) → Agree earlier own → IsFresh earlier own → (rest : List PlainStep) (last : Plain)
       → steps_are_built earlier rest ≡ true → query_is_built (numbers_after earlier rest) last ≡ true → AreTyped rest last → IsTyped earlier own rest last
-  typed_behind earlier own agree [] last built last_built are = known_same _ _ (query_agrees earlier own agree last last_built) are.1
-  typed_behind earlier own agree (s ∷ rest) last built last_built are =
+  typed_behind earlier own agree fresh [] last built last_built are = known_same _ _ (query_agrees earlier own agree last last_built) are.1
+  typed_behind earlier own agree fresh (s ∷ rest) last built last_built are =
       let p = and_parts (is_above earlier s.j) (step_is_built earlier s.query && steps_are_built (s.j ∷ earlier) rest) built in
       let q = and_parts (step_is_built earlier s.query) (steps_are_built (s.j ∷ earlier) rest) p.1 in
       let same = step_agrees earlier own agree s.query q.0 ∙ are.0.0.0 in
-      let own_known : is_some (query_types tables own s.query) ≡ true = known_same _ _ same are.0.0.1 in
-      let more = typed_behind (s.j ∷ earlier) (with_types s.j (query_types tables own s.query) own) (agree_more earlier own s.j (query_types tables own s.query) same agree) rest last q.1 last_built (are.0.1, are.1) in
+      let new : step_is_typed (own s.j) (query_types tables own s.query) ≡ true =
+      ap (λ o. step_is_typed o (query_types tables own s.query)) (fresh s.j (above_absent earlier s.j p.0)) ∙ ap (λ (o : Option (List CellType)). option_map_or are_whole o false) same ∙ are.0.0.1 in
+      let more = typed_behind (s.j ∷ earlier) (with_types s.j (query_types tables own s.query) own) (agree_more earlier own s.j (query_types tables own s.query) same agree) (fresh_more earlier own s.j (query_types tables own s.query) fresh) rest last q.1 last_built (are.0.1, are.1) in
       ap (λ b. (b && steps_are_typed tables rest (with_types s.j (query_types tables own s.query) own))
-      && is_some (query_types tables (steps_types tables rest (with_types s.j (query_types tables own s.query) own)) last)) own_known ∙ more
+      && is_some (query_types tables (steps_types tables rest (with_types s.j (query_types tables own s.query) own)) last)) new ∙ more
 
   -- a well-built program has types, if each of its steps has the types of its table
   pub merged_is_typed : (program : PlainProgram) → is_well_built (merged program) ≡ true → AreTyped program.steps program.last → is_typed tables (merged program) ≡ true
   merged_is_typed program built are =
       let p = and_parts (steps_are_built [] (merged program).steps) (query_is_built (numbers_after [] (merged program).steps) (merged program).last) built in
-      typed_behind [] no_types (λ j among. absurd cc) (merged program).steps (merged program).last p.0 p.1 (merged_typed program are)
+      typed_behind [] no_types (λ j among. absurd cc) (λ j absent. refl) (merged program).steps (merged program).last p.0 p.1 (merged_typed program are)

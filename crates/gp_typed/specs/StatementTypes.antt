@@ -10,7 +10,8 @@ use Rattle.gp_algebra.specs.Statements.{SetExpr, Branch, Select, Statement, inse
 use Rattle.gp_machine.specs.Entries.{Entry, Ran}
 use Rattle.gp_sql.specs.declared.cell_type.CellType.{CellType}
 use Rattle.gp_sql.specs.declared.cell_type.CellType.TheVariants.{Null, Int, Text, Id, Mark}
-use Rattle.gp_sql.specs.Types.{both_types, column_types, cond_is_typed, expr_type, exprs_types, row_types, type_at}
+use Rattle.gp_sql.specs.CellTypes.{column_types}
+use Rattle.gp_sql.specs.Types.{both_types, cond_is_typed, expr_type, exprs_types, row_types, type_at}
 
 -- the types of the columns of a table; it has none where it is not there
 abbrev pub table_types : List Table → ℕ → List CellType

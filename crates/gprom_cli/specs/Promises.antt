@@ -77,8 +77,9 @@ pub record Promises (call : Call) : Type 0 where
   -- Every query that the questions of a file ask to explain, of whatever well-formed dump, has as answer the lines of the text of one program that on every
   -- database of past versions gives the answer of the query over the state that the logged statements lead to.
   pub explained : (bytes file : List ℕ) (contents : Dump) (lines : List ReadQuestion) → WellFormed bytes contents → AreQuestions file lines → ExplainsLines (shown Text) contents.entries lines
-  -- Every query that `sql` writes for a question of a file, of whatever well-formed dump, is a query of SQL that over any tables of row versions gives the rows of the question's
-  -- query over the state that the logged statements lead to from the versions that they hold. The tables that it writes before are such tables.
+  -- Every query that `sql` writes for a question of a file, of whatever well-formed dump, is a query of SQL that has types over the dump's tables, and over any tables of row
+  -- versions gives the rows of the question's query over the state that the logged statements lead to from the versions that they hold. The tables that it writes before are such
+  -- tables.
   pub asked : (bytes file : List ℕ) (contents : Dump) (lines : List ReadQuestion) → WellFormed bytes contents → AreQuestions file lines → AsksLines (shown Sql) contents.entries lines
   pub stored : (bytes : List ℕ) (contents : Dump) → WellFormed bytes contents → AreStored contents.entries contents.tables
   -- What `export` writes with names for rows under such titles is a sheet that loads again, with the number of the question in front of each row.

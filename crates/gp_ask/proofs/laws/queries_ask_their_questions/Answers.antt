@@ -9,5 +9,6 @@ returns c = λ bytes file dump questions formed are.
     questions_ask bytes file dump questions formed are (record {
       gives = c.queries_give_the_rows_of_programs.ensures.listed;
       spelled = c.queries_of_programs_are_spelled.ensures;
+      queries = c.queries_of_programs_are_typed.ensures;
       typed = c.well_formed_dumps_are_typed.ensures.programs dump is;
     })

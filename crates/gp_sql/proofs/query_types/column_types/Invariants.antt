@@ -1,6 +1,6 @@
 use Rattle.std.proofs.Common.{◌≡◌, map, take}
 use Rattle.gp_base.specs.declared.table.Column.{Column}
-use Rattle.gp_sql.specs.Types.{kind_type}
+use Rattle.gp_sql.specs.CellTypes.{kind_type}
 use Rattle.gp_sql.proofs.query_types.column_types.Given as goal
 
 abbrev pub invariant-loop-column : goal.invariant-loop-column

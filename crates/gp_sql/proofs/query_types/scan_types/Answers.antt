@@ -1,6 +1,6 @@
 use Rattle.std.proofs.Common.{◌∙◌, ap, map}
 use Rattle.gp_base.specs.declared.table.Column.{Column}
-use Rattle.gp_sql.specs.Types.{kind_type}
+use Rattle.gp_sql.specs.CellTypes.{kind_type}
 use Rattle.gp_sql.proofs.CodeLemmas.{scan-is}
 use Rattle.gp_sql.proofs.query_types.scan_types.Goals as goal
 
