@@ -1,6 +1,6 @@
 -- What the events of a call say of its end.
 use Rattle.std.proofs.Common.{◌≡◌, ℕ, ◌<◌, ◌≤◌, ◌⊎◌, inl, inr, Bool, true, false, List, [], ◌∷◌, ◌++◌, length, Option, Some, None, Result, Ok, Err, refl, sym, ap, ◌∙◌, subst, arith}
-use Rattle.gp_io.specs.Events.{Event, Read, Missing, Unreadable, Replaced, NotReplaced}
+use Rattle.gp_io.specs.Events.{Event, Read, Missing, Unreadable, Stopped, Replaced, NotReplaced}
 use Rattle.gp_script.specs.declared.script.TheConstants.{MAX_SCRIPT_LENGTH}
 use Rattle.gp_script.specs.History.{IsScript, ReadLine, has_refusal, replies_to}
 use Rattle.gp_script.proofs.ReadHistory.{one-script}
@@ -16,7 +16,7 @@ use Rattle.gprom_cli.specs.declared.status.Status.TheVariants as exit
 use Rattle.gprom_cli.specs.Args.{Command, Run, Ask, Generate, Load, Help, Version}
 use Rattle.gprom_cli.specs.Call as c
 use Rattle.gprom_cli.specs.Call.{IsWholeLines, ComesTo, HasRead, IsReadBy, Shown, answered_status, history_dump, read_of, rounds_line}
-use Rattle.gprom_cli.specs.Consequences.{AllDone, FollowsSteps, IsLast, reads, replaces}
+use Rattle.gprom_cli.specs.Consequences.{AllDone, FollowsSteps, HasStopped, IsLast, reads, replaces}
 use Rattle.gprom_cli.specs.Steps.{script_dump}
 use Rattle.gprom_cli.proofs.OutcomeLemmas.{dump-read}
 
@@ -51,6 +51,12 @@ unreadable-steps _ _ _ _ (c.reads_dump format dump questions) = (reads questions
 unreadable-steps _ _ _ _ (c.reads_questions format dump questions bytes short) = ([], refl)
 unreadable-steps _ _ _ _ (c.reads_sheet csv table script) = (replaces script ∷ [], refl)
 
+stopped-steps : (command : Command) (before : List Event) (name : List ℕ) (most : ℕ) → IsReadBy command before name most → FollowsSteps (Some command) (before ++ Stopped name ∷ [])
+stopped-steps _ _ _ _ (c.reads_script script dump) = (replaces dump ∷ [], refl)
+stopped-steps _ _ _ _ (c.reads_dump format dump questions) = (reads questions ∷ [], refl)
+stopped-steps _ _ _ _ (c.reads_questions format dump questions bytes short) = ([], refl)
+stopped-steps _ _ _ _ (c.reads_sheet csv table script) = (replaces script ∷ [], refl)
+
 read-steps : (command : Command) (before : List Event) (name : List ℕ) (most : ℕ) (bytes : List ℕ) → IsReadBy command before name most → FollowsSteps (Some command) (before ++ read_of name most bytes ∷ [])
 read-steps _ _ _ _ bytes (c.reads_script script dump) = (replaces dump ∷ [], refl)
 read-steps _ _ _ _ bytes (c.reads_dump format dump questions) = (reads questions ∷ [], refl)
@@ -69,6 +75,7 @@ no-steps (Some Version) = ([], refl)
 pub read-follows : (command : Option Command) (events : List Event) → HasRead command events → FollowsSteps command events
 read-follows _ _ (c.nothing command) = no-steps command
 read-follows _ _ (c.files command before name most bytes is short) = read-steps command before name most bytes is
+read-follows _ _ (c.stopped command before name most is) = stopped-steps command before name most is
 
 pub end-follows : (programs : Shown) (command : Option Command) (events : List Event) (text : List ℕ) (status : Status) → ComesTo programs command events text status → FollowsSteps command events
 end-follows programs _ _ _ _ c.usage = ([], refl)
@@ -129,6 +136,31 @@ cause programs _ _ _ _ (c.summarized rounds others are) = tt
 cause programs _ _ _ _ (c.faulty_sheet csv table script bytes number record_number short fault) = tt
 cause programs _ _ _ _ (c.lost_script csv table script bytes text rows short is) = (script, text, (read_of csv MAX_SHEET_LENGTH bytes ∷ [], refl))
 cause programs _ _ _ _ (c.loaded csv table script bytes text rows short is loads) = tt
+
+-- ---- no read stopped
+
+none-last : (command : Command) (before : List Event) (name : List ℕ) (most : ℕ) → IsReadBy command before name most → (event : Event) → (HasStopped (event ∷ []) → ⊥) → HasStopped (before ++ event ∷ []) → ⊥
+none-last _ _ _ _ (c.reads_script script dump) event none = none
+none-last _ _ _ _ (c.reads_dump format dump questions) event none = none
+none-last _ _ _ _ (c.reads_questions format dump questions bytes short) event none = none
+none-last _ _ _ _ (c.reads_sheet csv table script) event none = none
+
+pub none-stopped : (programs : Shown) (command : Option Command) (events : List Event) (text : List ℕ) (status : Status) → ComesTo programs command events text status → HasStopped events → ⊥
+none-stopped programs _ _ _ _ c.usage = λ no. no
+none-stopped programs _ _ _ _ c.helped = λ no. no
+none-stopped programs _ _ _ _ c.versioned = λ no. no
+none-stopped programs _ _ _ _ (c.absent command before name most is) = none-last command before name most is (Missing name) (λ no. no)
+none-stopped programs _ _ _ _ (c.unreadable command before name most is) = none-last command before name most is (Unreadable name) (λ no. no)
+none-stopped programs _ _ _ _ (c.too_long command before name most bytes is long) = none-last command before name most is (read_of name most bytes) (λ no. no)
+none-stopped programs _ _ _ _ (c.long_dump script dump bytes lines run long) = λ no. no
+none-stopped programs _ _ _ _ (c.lost_dump script dump bytes lines run small) = λ no. no
+none-stopped programs _ _ _ _ (c.replied script dump bytes lines run small) = λ no. no
+none-stopped programs _ _ _ _ (c.damaged format dump questions bytes asked f line few short fault) = λ no. no
+none-stopped programs _ _ _ _ (c.answered format dump questions bytes asked contents lines few short formed are) = λ no. no
+none-stopped programs _ _ _ _ (c.summarized rounds others are) = λ no. no
+none-stopped programs _ _ _ _ (c.faulty_sheet csv table script bytes number record_number short fault) = λ no. no
+none-stopped programs _ _ _ _ (c.lost_script csv table script bytes text rows short is) = λ no. no
+none-stopped programs _ _ _ _ (c.loaded csv table script bytes text rows short is loads) = λ no. no
 
 -- ---- what follows a read
 
@@ -276,6 +308,12 @@ one-read _ _ _ _ bytes (c.reads_dump format dump questions) = tt
 one-read _ _ _ _ bytes (c.reads_questions format dump questions first short) = tt
 one-read _ _ _ _ bytes (c.reads_sheet csv table script) = λ event made is. sym (ap rest_of is)
 
+one-stop : (command : Command) (before : List Event) (name : List ℕ) (most : ℕ) → IsReadBy command before name most → NothingFollows (Some command) (before ++ Stopped name ∷ [])
+one-stop _ _ _ _ (c.reads_script script dump) = λ event made is. sym (ap rest_of is)
+one-stop _ _ _ _ (c.reads_dump format dump questions) = tt
+one-stop _ _ _ _ (c.reads_questions format dump questions first short) = tt
+one-stop _ _ _ _ (c.reads_sheet csv table script) = λ event made is. sym (ap rest_of is)
+
 none-read : (command : Option Command) → NothingFollows command []
 none-read None = λ event made is. sym (ap rest_of is)
 none-read (Some (Run script dump)) = λ event made is. sym (ap rest_of is)
@@ -288,3 +326,4 @@ none-read (Some Version) = λ event made is. sym (ap rest_of is)
 pub nothing-follows : (command : Option Command) (events : List Event) → HasRead command events → NothingFollows command events
 nothing-follows _ _ (c.nothing command) = none-read command
 nothing-follows _ _ (c.files command before name most bytes is short) = one-read command before name most bytes is
+nothing-follows _ _ (c.stopped command before name most is) = one-stop command before name most is

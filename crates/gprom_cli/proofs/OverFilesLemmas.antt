@@ -6,7 +6,7 @@ use Rattle.std.proofs.lemmas.List.{take_all}
 use Rattle.std.proofs.lemmas.Slice.Eq.{bytes_eq-Decides}
 use Rattle.gp_base.specs.Annotated.{monomials, unannotated}
 use Rattle.gp_io.specs.Contents.{Contents, HaveSame, Leads, replaced_by}
-use Rattle.gp_io.specs.Events.{Event, Read, Missing, Unreadable, Replaced, NotReplaced}
+use Rattle.gp_io.specs.Events.{Event, Read, Missing, Unreadable, Stopped, Replaced, NotReplaced}
 use Rattle.gp_script.specs.History.{ReadLine, has_refusal, last_state, replies_text, replies_to}
 use Rattle.gp_script.specs.declared.script.TheConstants.{MAX_SCRIPT_LENGTH}
 use Rattle.gp_dump.specs.declared.dump.TheConstants.{MAX_DUMP_LENGTH}
@@ -37,6 +37,7 @@ abbrev IsOpening : List ℕ → ℕ → Event → Type 0
 IsOpening name most (Read other count bytes) = (other ≡ name) × (count ≡ most + 1)
 IsOpening name most (Missing other) = other ≡ name
 IsOpening name most (Unreadable other) = other ≡ name
+IsOpening name most (Stopped other) = other ≡ name
 IsOpening name most (Replaced other bytes) = ⊥
 IsOpening name most (NotReplaced other bytes) = ⊥
 
@@ -44,6 +45,7 @@ abbrev IsReplacing : List ℕ → Event → Type 0
 IsReplacing name (Read other count bytes) = ⊥
 IsReplacing name (Missing other) = ⊥
 IsReplacing name (Unreadable other) = ⊥
+IsReplacing name (Stopped other) = ⊥
 IsReplacing name (Replaced other bytes) = other ≡ name
 IsReplacing name (NotReplaced other bytes) = other ≡ name
 
@@ -85,6 +87,12 @@ unreadable-shape _ _ _ _ (c.reads_dump format dump questions) = (refl, tt)
 unreadable-shape _ _ _ _ (c.reads_questions format dump questions bytes short) = ((refl, refl), (refl, refl))
 unreadable-shape _ _ _ _ (c.reads_sheet csv table script) = (refl, tt)
 
+stopped-shape : (command : Command) (before : List Event) (name : List ℕ) (most : ℕ) → IsReadBy command before name most → HasShape (Some command) (before ++ Stopped name ∷ [])
+stopped-shape _ _ _ _ (c.reads_script script dump) = (refl, tt)
+stopped-shape _ _ _ _ (c.reads_dump format dump questions) = (refl, tt)
+stopped-shape _ _ _ _ (c.reads_questions format dump questions bytes short) = ((refl, refl), (refl, refl))
+stopped-shape _ _ _ _ (c.reads_sheet csv table script) = (refl, tt)
+
 whole-shape : (command : Command) (before : List Event) (name : List ℕ) (most : ℕ) (bytes : List ℕ) → IsReadBy command before name most → HasShape (Some command) (before ++ read_of name most bytes ∷ [])
 whole-shape _ _ _ _ bytes (c.reads_script script dump) = ((refl, refl), tt)
 whole-shape _ _ _ _ bytes (c.reads_dump format dump questions) = ((refl, refl), tt)
@@ -103,6 +111,7 @@ no-shape (Some Version) = refl
 read-shape : (command : Option Command) (events : List Event) → HasRead command events → HasShape command events
 read-shape _ _ (c.nothing command) = no-shape command
 read-shape _ _ (c.files command before name most bytes is short) = whole-shape command before name most bytes is
+read-shape _ _ (c.stopped command before name most is) = stopped-shape command before name most is
 
 end-shape : (programs : Shown) (command : Option Command) (events : List Event) (text : List ℕ) (status : Status) → ComesTo programs command events text status → HasShape command events
 end-shape programs _ _ _ _ c.usage = refl
@@ -136,6 +145,7 @@ abbrev run_made : List ℕ → Event → List Event
 run_made dump (Read name count bytes) = cond (nat_lt MAX_SCRIPT_LENGTH (length bytes)) [] (dump_made dump (script_dump bytes))
 run_made dump (Missing name) = []
 run_made dump (Unreadable name) = []
+run_made dump (Stopped name) = []
 run_made dump (Replaced name bytes) = []
 run_made dump (NotReplaced name bytes) = []
 
@@ -147,6 +157,7 @@ abbrev load_made : List ℕ → List ℕ → Event → List Event
 load_made table script (Read name count bytes) = cond (nat_lt MAX_SHEET_LENGTH (length bytes)) [] (sheet_made script (loaded_of table bytes))
 load_made table script (Missing name) = []
 load_made table script (Unreadable name) = []
+load_made table script (Stopped name) = []
 load_made table script (Replaced name bytes) = []
 load_made table script (NotReplaced name bytes) = []
 
@@ -155,6 +166,7 @@ abbrev IsShortRead : Event → Type 0
 IsShortRead (Read name count bytes) = length bytes ≤ MAX_DUMP_LENGTH
 IsShortRead (Missing name) = ⊥
 IsShortRead (Unreadable name) = ⊥
+IsShortRead (Stopped name) = ⊥
 IsShortRead (Replaced name bytes) = ⊥
 IsShortRead (NotReplaced name bytes) = ⊥
 
@@ -228,6 +240,7 @@ closing-done name [] closing none = tt
 closing-done name (Read other count bytes ∷ events) closing none = absurd closing.0
 closing-done name (Missing other ∷ events) closing none = absurd closing.0
 closing-done name (Unreadable other ∷ events) closing none = absurd closing.0
+closing-done name (Stopped other ∷ events) closing none = absurd closing.0
 closing-done name (Replaced other bytes ∷ events) closing none = subst AllDone (sym closing.1) tt
 closing-done name (NotReplaced other bytes ∷ events) closing none = absurd none
 
@@ -235,6 +248,7 @@ none-after : (event : Event) (events : List Event) → NoFault (event ∷ events
 none-after (Read name count bytes) events none = none
 none-after (Missing name) events none = none
 none-after (Unreadable name) events none = absurd none
+none-after (Stopped name) events none = absurd none
 none-after (Replaced name bytes) events none = none
 none-after (NotReplaced name bytes) events none = absurd none
 
@@ -249,6 +263,7 @@ module _ (old : Contents) where
   opening-leads name most (Read other count bytes) events new opens leads = leads.1
   opening-leads name most (Missing other) events new opens leads = leads.1
   opening-leads name most (Unreadable other) events new opens leads = leads
+  opening-leads name most (Stopped other) events new opens leads = leads
   opening-leads name most (Replaced other bytes) events new opens leads = absurd opens
   opening-leads name most (NotReplaced other bytes) events new opens leads = absurd opens
 
@@ -258,6 +273,7 @@ module _ (old : Contents) where
   closing-leads name (Read also count bytes ∷ events) new closing leads = absurd closing.0
   closing-leads name (Missing also ∷ events) new closing leads = absurd closing.0
   closing-leads name (Unreadable also ∷ events) new closing leads = absurd closing.0
+  closing-leads name (Stopped also ∷ events) new closing leads = absurd closing.0
   closing-leads name (Replaced also bytes ∷ events) new closing leads = λ other apart.
       let same : HaveSame (replaced_by also bytes old) new = subst (λ (es : List Event). Leads (replaced_by also bytes old) es new) closing.1 leads in
       same other ∙ ap (λ (answer : Bool). cond answer (Some bytes) (old other)) (not-this name also other closing.0 apart (bytes_eq also other) refl)
@@ -274,6 +290,7 @@ module _ (old : Contents) where
   found name most (Missing other) events new bytes opens leads none has short =
       absurd (let no : Some bytes ≡ None = sym has ∙ ap old (sym opens) ∙ leads.0 in cc)
   found name most (Unreadable other) events new bytes opens leads none has short = absurd none
+  found name most (Stopped other) events new bytes opens leads none has short = absurd none
   found name most (Replaced other read) events new bytes opens leads none has short = absurd opens
   found name most (NotReplaced other read) events new bytes opens leads none has short = absurd opens
 
@@ -293,14 +310,17 @@ module _ (old : Contents) where
       λ i. Read (files i) (counts i) (same i)
   same-opening name most (Read file count bytes) (Missing also) events others new after opens opens' leads leads' none none' = absurd (read-and-missing file also count bytes (opens.0 ∙ sym opens') leads.0 leads'.0)
   same-opening name most (Read file count bytes) (Unreadable also) events others new after opens opens' leads leads' none none' = absurd none'
+  same-opening name most (Read file count bytes) (Stopped also) events others new after opens opens' leads leads' none none' = absurd none'
   same-opening name most (Read file count bytes) (Replaced also bytes') events others new after opens opens' leads leads' none none' = absurd opens'
   same-opening name most (Read file count bytes) (NotReplaced also bytes') events others new after opens opens' leads leads' none none' = absurd opens'
   same-opening name most (Missing file) (Read also count bytes) events others new after opens opens' leads leads' none none' = absurd (read-and-missing also file count bytes (opens'.0 ∙ sym opens) leads'.0 leads.0)
   same-opening name most (Missing file) (Missing also) events others new after opens opens' leads leads' none none' = ap Missing (opens ∙ sym opens')
   same-opening name most (Missing file) (Unreadable also) events others new after opens opens' leads leads' none none' = absurd none'
+  same-opening name most (Missing file) (Stopped also) events others new after opens opens' leads leads' none none' = absurd none'
   same-opening name most (Missing file) (Replaced also bytes') events others new after opens opens' leads leads' none none' = absurd opens'
   same-opening name most (Missing file) (NotReplaced also bytes') events others new after opens opens' leads leads' none none' = absurd opens'
   same-opening name most (Unreadable file) other events others new after opens opens' leads leads' none none' = absurd none
+  same-opening name most (Stopped file) other events others new after opens opens' leads leads' none none' = absurd none
   same-opening name most (Replaced file bytes) other events others new after opens opens' leads leads' none none' = absurd opens
   same-opening name most (NotReplaced file bytes) other events others new after opens opens' leads leads' none none' = absurd opens
 

@@ -64,11 +64,11 @@ use Rattle.gprom_cli.specs.Call as c
 use Rattle.gprom_cli.specs.Call.{IsWholeLines, Call, ComesTo, HasOutcome, RunsScript, WritesOutput, Shown, answered_status, asked_status, asked_text, history_dump, loaded_message, read_of, rounds_line, sheet_message, usage_text}
 use Rattle.gprom_cli.specs.Steps.{script_dump}
 use Rattle.gprom_cli.specs.Promises.{IsReadAsDump, Promises}
-use Rattle.gprom_cli.specs.Consequences.{AllDone, Consequences, FollowsSteps, HasFailed, IsClean, IsDetermined, IsLast, IsOrFails, IsReplacedAfter, LoadsSheet}
+use Rattle.gprom_cli.specs.Consequences.{AllDone, Consequences, FollowsSteps, HasFailed, HasStopped, IsClean, IsDetermined, IsLast, IsOrFails, IsReplacedAfter, LoadsSheet}
 use Rattle.gprom_cli.proofs.WritesLemmas.{IsWritten, expected-is, no-new-failure, nothing-written, or-failed, or-fails}
 use Rattle.gprom_cli.proofs.OutcomeLemmas.{dump-read}
 use Rattle.gprom_cli.proofs.ToldLemmas.{fails, told, told-is, writes-told, WritesTold}
-use Rattle.gprom_cli.proofs.EventLemmas.{Cause, GenerateFollows, LoadFollows, NothingFollows, RunFollows, SheetFollows, cause, end-follows, generate-follows, load-follows, nothing-follows, read-follows, run-follows}
+use Rattle.gprom_cli.proofs.EventLemmas.{Cause, GenerateFollows, LoadFollows, NothingFollows, RunFollows, SheetFollows, cause, end-follows, generate-follows, load-follows, none-stopped, nothing-follows, read-follows, run-follows}
 
 -- ---- a status and its cause
 
@@ -239,6 +239,10 @@ module _ (call : Call) (promises : Promises call) where
       claims status call.sink call.sink_after call.command call.events (cause programs call.command call.events text status comes)
       (or-failed text status call.sink call.sink_after call.status writes at)
   unwritten (c.out_of_memory reads quiet memory) at = absurd (let impossible : exit.Unwritten ≡ exit.OutOfMemory = sym at ∙ memory in cc)
+
+  stopped : HasOutcome programs call → HasStopped call.events → call.status ≡ exit.OutOfMemory
+  stopped (c.comes_to text status comes writes) stops = absurd (none-stopped programs call.command call.events text status comes stops)
+  stopped (c.out_of_memory reads quiet memory) stops = memory
 
   no-failures : HasOutcome programs call → IsWritten call.status → call.sink_after.failed ≡ call.sink.failed
   no-failures (c.comes_to text status comes writes) is = no-new-failure text status call.sink call.sink_after call.status writes is
@@ -413,6 +417,7 @@ module _ (call : Call) (promises : Promises call) where
       invalid = invalid;
       absent = λ at. cause-at exit.Absent has at absent-written;
       unreadable = λ at. cause-at exit.Unreadable has at unreadable-written;
+      stopped = stopped has;
       unwritten = unwritten has;
       clean = clean;
     }

@@ -1,6 +1,6 @@
 -- How the steps of a call make its end.
 use Rattle.std.proofs.Common.{◌≡◌, ℕ, ◌≤◌, List, [], ◌∷◌, ◌++◌, length, Option, Some, refl, sym, ap, ◌∙◌, subst, append_assoc, append-nil, codes}
-use Rattle.gp_io.specs.Events.{Event, Missing, Unreadable}
+use Rattle.gp_io.specs.Events.{Event, Missing, Unreadable, Stopped}
 use Rattle.gp_io.specs.Sink.{SinkState}
 use Rattle.gp_script.specs.declared.script.TheConstants.{MAX_SCRIPT_LENGTH}
 use Rattle.gp_dump.specs.declared.dump.TheConstants.{MAX_DUMP_LENGTH}
@@ -11,16 +11,9 @@ use Rattle.gprom_cli.specs.declared.status.Status.{Status}
 use Rattle.gprom_cli.specs.declared.status.Status.TheVariants as exit
 use Rattle.gprom_cli.specs.Args.{Command, Ask}
 use Rattle.gprom_cli.specs.Call as c
-use Rattle.gprom_cli.specs.Call.{HasRead, IsReadBy, WritesOutput, asked_status, asked_text, damage_message, message, read_of}
+use Rattle.gprom_cli.specs.Call.{IsReadBy, WritesOutput, asked_status, asked_text, damage_message, message, read_of}
 use Rattle.gprom_cli.specs.Steps.{Answers, Ends, StopsReading, is_absent, is_unreadable, is_long, no_memory, is_damaged, is_answered, no_answer}
 use Rattle.gprom_cli.proofs.OutcomeLemmas.{grows-twice}
-
--- a file was read before
-pub has-read : (command : Command) (before : List Event) (name : List ℕ) (most : ℕ) → IsReadBy command before name most → HasRead (Some command) before
-has-read _ _ _ _ (c.reads_script script dump) = c.nothing _
-has-read _ _ _ _ (c.reads_dump format dump questions) = c.nothing _
-has-read _ _ _ _ (c.reads_questions format dump questions bytes short) = c.files (Ask format dump questions) [] dump MAX_DUMP_LENGTH bytes (c.reads_dump format dump questions) short
-has-read _ _ _ _ (c.reads_sheet csv table script) = c.nothing _
 
 grows-last : (start before after read : List Event) (last : Event) → before ≡ start ++ read → after ≡ before ++ last ∷ [] → after ≡ start ++ (read ++ last ∷ [])
 grows-last start before after read last there grown = grown ∙ ap (λ (events : List Event). events ++ last ∷ []) there ∙ append_assoc start read (last ∷ [])
@@ -44,10 +37,10 @@ module _ (command : Command) (start before after read : List Event) (name : List
     grown = grows-last start before after read (read_of name most bytes) there grown;
     outcome = c.comes_to (message (codes "too long") name) exit.TooLong (c.too_long command read name most bytes reads long) writes;
   }
-  stopped (no_memory same quiet memory) = record {
-    events = read;
-    grown = same ∙ there;
-    outcome = c.out_of_memory (has-read command read name most reads) quiet memory;
+  stopped (no_memory grown quiet memory) = record {
+    events = read ++ Stopped name ∷ [];
+    grown = grows-last start before after read (Stopped name) there grown;
+    outcome = c.out_of_memory (c.stopped command read name most reads) quiet memory;
   }
 
 -- the first file was not read

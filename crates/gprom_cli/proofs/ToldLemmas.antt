@@ -1,7 +1,7 @@
 -- What the shelf has done determines what a call comes to, but for the summary of `gen`.
 use Rattle.std.proofs.Common.{◌≡◌, ℕ, ◌<◌, ◌≤◌, cond, List, [], ◌∷◌, ◌++◌, length, nat_lt, Option, Some, None, Result, Ok, Err, refl, sym, ap, ◌∙◌, subst, arith, codes}
 use Rattle.std.proofs.lemmas.Bool.Decides.{nat_tests}
-use Rattle.gp_io.specs.Events.{Event, Read, Missing, Unreadable, Replaced, NotReplaced}
+use Rattle.gp_io.specs.Events.{Event, Read, Missing, Unreadable, Stopped, Replaced, NotReplaced}
 use Rattle.gp_script.specs.History.{ReadLine, has_refusal, replies_text, replies_to}
 use Rattle.gp_script.specs.Scripts.{replies_of}
 use Rattle.gp_script.specs.declared.script.TheConstants.{MAX_SCRIPT_LENGTH}
@@ -43,6 +43,7 @@ abbrev read_told : ℕ → Event → (List ℕ → Told) → Told
 read_told most (Read name asked bytes) next = cond (nat_lt most (length bytes)) (message (codes "too long") name, exit.TooLong) (next bytes)
 read_told most (Missing name) next = (message (codes "absent") name, exit.Absent)
 read_told most (Unreadable name) next = (message (codes "cannot read") name, exit.Unreadable)
+read_told most (Stopped name) next = nothing_told
 read_told most (Replaced name bytes) next = nothing_told
 read_told most (NotReplaced name bytes) next = nothing_told
 
@@ -54,6 +55,7 @@ replace_told (NotReplaced name bytes ∷ events) before after = (message (codes 
 replace_told (Read name asked bytes ∷ events) before after = nothing_told
 replace_told (Missing name ∷ events) before after = nothing_told
 replace_told (Unreadable name ∷ events) before after = nothing_told
+replace_told (Stopped name ∷ events) before after = nothing_told
 
 abbrev run_told : List ℕ → List Event → List ℕ → Told
 run_told dump events bytes = replace_told events (message (codes "too long") dump, exit.TooLong) (replies_text (replies_of bytes), answered_status (has_refusal (replies_of bytes)))

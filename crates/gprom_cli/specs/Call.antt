@@ -4,7 +4,7 @@ use Rattle.std.specs.Fmt.{decimal}
 use Rattle.std.specs.List.{concat}
 use Rattle.gp_base.specs.Annotated.{unannotated}
 use Rattle.gp_base.specs.Numbered.{newline}
-use Rattle.gp_io.specs.Events.{Event, Read, Missing, Unreadable, Replaced, NotReplaced}
+use Rattle.gp_io.specs.Events.{Event, Read, Missing, Unreadable, Stopped, Replaced, NotReplaced}
 use Rattle.gp_io.specs.Sink.{SinkState, after_failure, after_write}
 use Rattle.gp_script.specs.History.{IsScript, ReadLine, has_refusal, last_state, replies_text, replies_to}
 use Rattle.gp_script.specs.declared.script.TheConstants.{MAX_SCRIPT_LENGTH}
@@ -172,11 +172,12 @@ module _ (programs : Shown) where
     loaded : (csv table script bytes text : List ℕ) (rows : ℕ) → length bytes ≤ MAX_SHEET_LENGTH → loaded_of table bytes ≡ Ok (text, rows) → LoadsText table bytes text
         → ComesTo (Some (Load csv table script)) (read_of csv MAX_SHEET_LENGTH bytes ∷ Replaced script text ∷ []) (loaded_message rows) exit.Done
 
--- what a command has read where memory runs out: nothing, or files that are not too long
+-- what a command has read where memory runs out: nothing, or files that are not too long, or it runs out in a read
 pub data HasRead : Option Command → List Event → Type 0 where
   nothing : (command : Option Command) → HasRead command []
   files : (command : Command) (before : List Event) (name : List ℕ) (most : ℕ) (bytes : List ℕ) → IsReadBy command before name most → length bytes ≤ most
       → HasRead (Some command) (before ++ read_of name most bytes ∷ [])
+  stopped : (command : Command) (before : List Event) (name : List ℕ) (most : ℕ) → IsReadBy command before name most → HasRead (Some command) (before ++ Stopped name ∷ [])
 
 module _ (programs : Shown) where
   -- The arguments, what the shelf has done and the programs determine what the call comes to, but for the summary of `gen`, and that what is written. Where memory

@@ -1,7 +1,7 @@
 -- Of the law `promises_have_consequences`: what follows from the promises of a call, by what was asked and what the shelf has done.
 use Rattle.std.specs.Prelude.{◌≡◌, ◌⊎◌, ℕ, ◌≤◌, List, [], ◌∷◌, ◌++◌, length, map, Option, Some, None, Result, Ok, Err}
 use Rattle.gp_base.specs.Annotated.{monomials, unannotated}
-use Rattle.gp_io.specs.Events.{Event, Read, Missing, Unreadable, Replaced, NotReplaced}
+use Rattle.gp_io.specs.Events.{Event, Read, Missing, Unreadable, Stopped, Replaced, NotReplaced}
 use Rattle.gp_io.specs.Sink.{SinkState}
 use Rattle.gp_script.specs.History.{ReadLine, has_refusal, last_state, replies_text, replies_to}
 use Rattle.gp_script.specs.declared.script.TheConstants.{MAX_SCRIPT_LENGTH}
@@ -41,6 +41,7 @@ abbrev pub step_of : Event → Step
 step_of (Read name most bytes) = reads name
 step_of (Missing name) = reads name
 step_of (Unreadable name) = reads name
+step_of (Stopped name) = reads name
 step_of (Replaced name bytes) = replaces name
 step_of (NotReplaced name bytes) = replaces name
 
@@ -54,6 +55,12 @@ AllDone [] = Unit {0}
 AllDone (Read name most bytes ∷ events) = AllDone events
 AllDone (Replaced name bytes ∷ events) = AllDone events
 AllDone (event ∷ events) = ⊥
+
+-- a read ran out of memory
+abbrev pub HasStopped : List Event → Type 0
+HasStopped [] = ⊥
+HasStopped (Stopped name ∷ events) = Unit {0}
+HasStopped (event ∷ events) = HasStopped events
 
 -- this is what the shelf did last
 abbrev pub IsLast : Event → List Event → Type 0
@@ -146,6 +153,8 @@ pub record Consequences (programs : Shown) (call : Call) : Type 0 where
   -- a file is called absent or unreadable only where the shelf answered so, last,
   pub absent : call.status ≡ exit.Absent → (name : List ℕ) × IsLast (Missing name) call.events
   pub unreadable : call.status ≡ exit.Unreadable → (name : List ℕ) × IsLast (Unreadable name) call.events
+  -- a read that ran out of memory ends the call with that status, so that no later read of an input passes for all of it,
+  pub stopped : HasStopped call.events → call.status ≡ exit.OutOfMemory
   -- a write error is claimed only where the dump or the script was not replaced, or a write to the output failed,
   pub unwritten : call.status ≡ exit.Unwritten → ((name : List ℕ) × (bytes : List ℕ) × IsLast (NotReplaced name bytes) call.events) ⊎ HasFailed call.sink call.sink_after
   -- and under the other statuses there was none. Memory may run out in any call: no postcondition can rule that out.

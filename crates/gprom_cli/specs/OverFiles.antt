@@ -3,7 +3,7 @@
 use Rattle.std.specs.Prelude.{◌≡◌, ◌≢◌, ◌⊎◌, ℕ, ◌≤◌, List, [], ◌∷◌, length, Option, Some, None, Result, Ok, Err}
 use Rattle.gp_base.specs.Annotated.{monomials, unannotated}
 use Rattle.gp_io.specs.Contents.{Contents, HaveSame, Leads, replaced_by}
-use Rattle.gp_io.specs.Events.{Event, Read, Missing, Unreadable, Replaced, NotReplaced}
+use Rattle.gp_io.specs.Events.{Event, Read, Missing, Unreadable, Stopped, Replaced, NotReplaced}
 use Rattle.gp_script.specs.History.{ReadLine, has_refusal, last_state, replies_text, replies_to}
 use Rattle.gp_script.specs.declared.script.TheConstants.{MAX_SCRIPT_LENGTH}
 use Rattle.gp_dump.specs.declared.dump.TheConstants.{MAX_DUMP_LENGTH}
@@ -21,12 +21,13 @@ use Rattle.gprom_cli.specs.Args.{Command, Run, Ask, Generate, Load, Help, Versio
 use Rattle.gprom_cli.specs.Call.{Call, ComesTo, RunsScript, WritesOutput, Shown, answered_status, asked_status, asked_text, history_dump, loaded_message, sheet_message}
 use Rattle.gprom_cli.specs.Consequences.{IsDetermined}
 
--- no file was unreadable, and none was not replaced
+-- no file was unreadable, no read ran out of memory, and no file was not replaced
 abbrev pub NoFault : List Event → Type 0
 NoFault [] = Unit {0}
 NoFault (Read name most bytes ∷ events) = NoFault events
 NoFault (Missing name ∷ events) = NoFault events
 NoFault (Unreadable name ∷ events) = ⊥
+NoFault (Stopped name ∷ events) = ⊥
 NoFault (Replaced name bytes ∷ events) = NoFault events
 NoFault (NotReplaced name bytes ∷ events) = ⊥
 

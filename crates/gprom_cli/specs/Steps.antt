@@ -1,7 +1,7 @@
 -- Machinery: what the steps of a call come to.
 use Rattle.std.specs.Prelude.{◌≡◌, ℕ, ◌≤◌, ◌<◌, Bool, List, [], ◌∷◌, ◌++◌, length, Option, Result, Ok, Err, IfOk, codes}
 use Rattle.gp_base.specs.Annotated.{unannotated}
-use Rattle.gp_io.specs.Events.{Event, Missing, Unreadable}
+use Rattle.gp_io.specs.Events.{Event, Missing, Unreadable, Stopped}
 use Rattle.gp_io.specs.Sink.{SinkState, after_write}
 use Rattle.gp_io.specs.declared.error.SinkStop.{SinkStop}
 use Rattle.gp_io.specs.declared.error.SinkStop.TheVariants.{Failed, NoMemory}
@@ -59,7 +59,7 @@ pub data StopsReading (name : List ℕ) (most : ℕ) (before after : List Event)
       → StopsReading name most before after sink sink_after status
   is_long : (bytes : List ℕ) → after ≡ before ++ read_of name most bytes ∷ [] → most < length bytes → WritesOutput (message (codes "too long") name) exit.TooLong sink sink_after status
       → StopsReading name most before after sink sink_after status
-  no_memory : after ≡ before → sink_after ≡ sink → status ≡ exit.OutOfMemory → StopsReading name most before after sink sink_after status
+  no_memory : after ≡ before ++ Stopped name ∷ [] → sink_after ≡ sink → status ≡ exit.OutOfMemory → StopsReading name most before after sink sink_after status
 
 -- ---- answering questions
 

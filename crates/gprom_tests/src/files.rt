@@ -177,7 +177,7 @@ impl OpenFile for TornFile {
     }
 
     fn sync_all(&self) -> io::Result<()> {
-        broken()
+        Ok(())
     }
 
     fn sync_data(&self) -> io::Result<()> {
@@ -219,11 +219,11 @@ impl Files for TornFiles {
     }
 
     fn metadata(&self, _path: &str) -> io::Result<Metadata> {
-        broken()
+        Err(io::Error::from(ErrorKind::NotFound))
     }
 
     fn symlink_metadata(&self, _path: &str) -> io::Result<Metadata> {
-        broken()
+        Err(io::Error::from(ErrorKind::NotFound))
     }
 
     fn copy(&self, _from: &str, _to: &str) -> io::Result<u64> {
@@ -231,7 +231,7 @@ impl Files for TornFiles {
     }
 
     fn rename(&self, _from: &str, _to: &str) -> io::Result<()> {
-        broken()
+        Ok(())
     }
 
     fn remove_file(&self, _path: &str) -> io::Result<()> {
