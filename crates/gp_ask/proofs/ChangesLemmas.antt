@@ -42,8 +42,7 @@ use Rattle.gp_versions.specs.Spans.{Versions}
 use Rattle.gp_dump.specs.Views.{tables_view}
 use Rattle.gp_ask.specs.declared.answered.Answered.TheVariants.{Lines, Refused}
 use Rattle.gp_ask.specs.declared.answered.Heading.TheVariants.{Changes}
-use Rattle.gp_ask.specs.ChangeForms.{by_identity, changed_text, changed_texts, changes_of, changes_to, commit_changes_to, dump_changes, if_any, table_changes, tables_texts, version_changes}
-use Rattle.gp_ask.specs.Changes.{spans_texts}
+use Rattle.gp_ask.specs.ChangeForms.{by_identity, changed_text, changed_texts, changes_of, changes_to, commit_changes_to, dump_changes, if_any, spans_texts, table_changes, tables_texts, version_changes}
 use Rattle.gp_ask.specs.Values.{unless_refused}
 use Rattle.gp_ask.specs.Asking.{table_spans}
 use Rattle.gp_ask.specs.Keyed.{as_identity, cells_of, identity_of, keyed_from, keyed_if, keyed_lines, sets_are_simple, shown_texts}

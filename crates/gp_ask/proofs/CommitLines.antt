@@ -28,7 +28,8 @@ use Rattle.gp_machine.proofs.Distinct.{each_all, each_filter, each_weaker}
 use Rattle.gp_dump.specs.Dumps.{is_after}
 use Rattle.gp_dump.proofs.PlaceLemmas.{Follows, follows-after}
 use Rattle.gp_dump.proofs.RowPlaces.{Pairwise, sorted_after, sorted_each}
-use Rattle.gp_ask.specs.Changes.{change_text, ends_at, goes_on, row_before, span_texts, spans_texts}
+use Rattle.gp_ask.specs.ChangeForms.{ends_at, goes_on, row_before, span_texts, spans_texts}
+use Rattle.gp_ask.specs.Changes.{change_text}
 use Rattle.gp_ask.specs.ShownWrites.{AreCells, HasCells, HasChange, HasRow, Rise, RowChange, ShowsWrites, row_change_text}
 
 -- ---- elements
@@ -569,10 +570,10 @@ module _ {M : Type 0} (versions : ℕ) (committed : Environment M) (written : �
   abbrev own_spans : List Span
   own_spans = spans_of versions committed written table
 
-  begins-written : (y : Span) → IsIn y own_spans → is_written table y.id (written y.from) ≡ true
+  pub begins-written : (y : Span) → IsIn y own_spans → is_written table y.id (written y.from) ≡ true
   begins-written y is = of-each (λ (span : Span). is_written table span.id (written span.from) ≡ true) y own_spans (each-begun _ (λ version row own. own) versions) is
 
-  ends-written : (y : Span) (w : ℕ) → IsIn y own_spans → y.to ≡ Some w → is_written table y.id (written w) ≡ true
+  pub ends-written : (y : Span) (w : ℕ) → IsIn y own_spans → y.to ≡ Some w → is_written table y.id (written w) ≡ true
   ends-written y w is ends =
       next-is-written written table y.id (versions - y.from) y.from w
       (sym (of-each (λ (span : Span). span.to ≡ next_written written table span.id span.from (versions - span.from)) y own_spans (each-begun _ (λ version row own. refl) versions) is) ∙ ends)

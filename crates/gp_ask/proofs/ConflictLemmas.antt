@@ -45,9 +45,10 @@ use Rattle.gp_versions.specs.declared.span.Span.{Span}
 use Rattle.gp_versions.specs.Spans.{row_of, spans_at}
 use Rattle.gp_ask.specs.Asking.{table_spans}
 use Rattle.gp_ask.specs.ConflictForms as f
+use Rattle.gp_ask.specs.ConflictForms.{dump_wrote}
 use Rattle.gp_ask.specs.Keyed.{identity_of}
 use Rattle.gp_ask.specs.Looked.{as_mark, mark_of, may_stop, rows_of}
-use Rattle.gp_ask.specs.RowConflicts.{based_cmp, conflict_lines, conflict_text, dump_written, dump_wrote, first_writer, firsts}
+use Rattle.gp_ask.specs.RowConflicts.{based_cmp, conflict_lines, conflict_text, dump_written, first_writer, firsts}
 use Rattle.gp_ask.specs.RowLines.{RowLine, first_texts, keyed_from, line_cmp, row_line}
 use Rattle.gp_ask.proofs.ChangesLemmas.{identity_found}
 use Rattle.gp_ask.proofs.IntervalLines.{sorted-map}

@@ -17,8 +17,8 @@ use Rattle.gp_base.specs.declared.cell.Cell.TheVariants.{Null, Int, Text, Id, Ma
 use Rattle.gp_base.specs.contracts.cell.CellOrd.TheImpl as cell_order
 use Rattle.gp_base.specs.Order.{cell_cmp, row_cmp}
 use Rattle.gp_base.specs.RowOrder.{exact_rows, row_cmp_total}
-use Rattle.gp_ask.specs.Deltas.{Signed, added, added_in, delta, delta_from, removed, removed_in, with_sign}
-use Rattle.gp_ask.specs.DeltaForms.{added_rows, removed_rows, signed_row}
+use Rattle.gp_ask.specs.Deltas.{Signed, added, added_rows, delta, delta_from, removed, removed_rows, signed_row, with_sign}
+use Rattle.gp_ask.specs.DeltaForms.{added_in, removed_in}
 
 -- ---- bags
 

@@ -1,7 +1,7 @@
 -- The answers of the dump of a history are those that the history held.
 use Rattle.std.proofs.Common.{◌≡◌, ℕ, zero, suc, nat_lt, Bool, true, false, cond, List, [], ◌++◌, ◌∷◌, length, map, Option, Some, None, Result, Ok, Err, refl, sym, ap, ◌∙◌, if◌then◌else◌}
 use Rattle.std.specs.List.Sorted.{IsPermutation}
-use Rattle.std.specs.Option.{option_or}
+use Rattle.std.specs.Option.{option_map_or, option_or}
 use Rattle.std.proofs.lemmas.List.{length-map}
 use Rattle.std.proofs.lemmas.List.Sorted.{IsPermutation-map}
 use Rattle.gp_base.specs.declared.cell.Cell.{Cell}
@@ -25,20 +25,20 @@ use Rattle.gp_machine.specs.Annotating.{annotated_versions}
 use Rattle.gp_machine.specs.Entries.{version_of}
 use Rattle.gp_machine.specs.HistorySpans.{state_spans}
 use Rattle.gp_machine.specs.Points.{at_point, version_or_empty, held_at}
-use Rattle.gp_machine.specs.Questions.{annotated_answer, given, held_answer, log_refusal, rows_answer}
+use Rattle.gp_machine.specs.Questions.{annotated_answer, given, held_answer, log_refusal, rows_answer, transaction_refusal}
 use Rattle.gp_machine.specs.QuestionForms.{AreAlike}
 use Rattle.gp_machine.specs.State.{State}
 use Rattle.gp_machine.specs.StateReannotation.{state_reannotated}
-use Rattle.gp_semiring.specs.Witnesses.{sets_text}
 use Rattle.gp_semiring.specs.declared.rules.Rule.{Rule}
-use Rattle.gp_history.specs.ValueAnswers.{history_refusal, limited}
+use Rattle.gp_history.specs.ValueAnswers.{history_refusal}
 use Rattle.gp_versions.specs.declared.span.Span.{Span}
 use Rattle.gp_dump.specs.Dumps.{Dump, dump_of, spans_in_order}
 use Rattle.gp_dump.specs.WholeDumps.{dump_with}
 use Rattle.gp_history.specs.Agreement.{agree}
 use Rattle.gp_history.specs.Agreement.{occurrence}
 use Rattle.gp_ask.specs.declared.answered.Answered.{Answered}
-use Rattle.gp_ask.specs.declared.answered.Answered.TheVariants.{Checked, Listed, Program, Refused, Rows}
+use Rattle.gp_ask.specs.declared.answered.Answered.TheVariants.{Checked, Lines, Listed, Program, Refused, Rows}
+use Rattle.gp_ask.specs.declared.answered.Heading.TheVariants.{Changes}
 use Rattle.gp_replay.specs.Differences.{difference}
 use Rattle.gp_ask.specs.SerialAnswers.{serial_answer}
 use Rattle.gp_ask.specs.Differences.{are_mixed}
@@ -49,12 +49,10 @@ use Rattle.gp_ask.specs.Programs.{program_lines}
 use Rattle.gp_ask.specs.Seeing.{seen_refusal}
 use Rattle.gp_ask.specs.Asking.{of_elements, query_answer, table_spans, with_monomials}
 use Rattle.gp_ask.specs.AskingForms.{dump_program, dump_provenance, dump_query, dump_remaining, dump_rows, held_provenance, held_remaining, held_rows, rules_of, versions_answer}
-use Rattle.gp_ask.specs.ValueForms.{dump_minimal, dump_valued, dump_values, held_minimal, held_valued, held_values}
+use Rattle.gp_ask.specs.ValueForms.{dump_valued, dump_values, held_valued, held_values}
 use Rattle.gp_ask.specs.Remaining.{has_left_out, is_left_out, remaining_answer}
 use Rattle.gp_ask.specs.Operations.{evaluated, operations_of}
-use Rattle.gp_ask.specs.Values.{rule_of, with_values}
-use Rattle.gp_ask.specs.Witnesses.{minimal_of}
-use Rattle.gp_ask.proofs.CountedLemmas.{answers_count}
+use Rattle.gp_ask.specs.Values.{rule_of, unless_refused}
 use Rattle.gp_ask.proofs.DifferenceLemmas.{causes-same, diff-same}
 use Rattle.gp_ask.proofs.GroupedRows.{listed-are}
 use Rattle.gp_ask.proofs.IntervalLemmas.{when-same}
@@ -62,7 +60,6 @@ use Rattle.gp_ask.proofs.MovedLemmas.{remaining_moved}
 use Rattle.gp_ask.proofs.ProvenanceLemmas.{same-list}
 use Rattle.gp_ask.proofs.QueryLemmas.{query-same}
 use Rattle.gp_ask.proofs.ValueLemmas.{AreHeld, found_in}
-use Rattle.gp_ask.proofs.WitnessLemmas.{minimal_moved}
 use Rattle.gp_base.proofs.SmallLemmas.{map-map}
 use Rattle.gp_serial.proofs.RunningLemmas.{sorted_same}
 
@@ -163,13 +160,6 @@ module _ (forgets : Forgets) (state : State Monomial) where
       refusals-held : (point : y.Point) → history_refusal monomials parameters agree (tables_in state.entries) state.entries spans point ≡ log_refusal state.entries point
       refusals-held point = ap (λ (catalogue : List Table). history_refusal monomials parameters agree catalogue state.entries spans point) kept ∙ refusals point
 
-      minimal-held : (point : y.Point) (select : Select) → dump_minimal dump point select ≡ held_minimal state point select
-      minimal-held point select =
-          ap (λ (refusal : Option Refusal). with_values sets_text (limited parameters.answer minimal_of (given refusal (found-elements point select)))) (refusals-held point)
-          ∙ ap (with_values sets_text)
-          (minimal_moved (log_refusal state.entries point) (found-elements point select) (answer monomials select (held_at state point)) (answers_count state.catalogue state.entries spans point select)
-          (elements-moved point select))
-
       valued-held : (name : SemiringName) (rules : List y.Rule) (other : Option ℕ) (point : y.Point) (select : Select)
           → dump_valued name rules other dump point select ≡ held_valued name rules other state point select
       valued-held named.Count rules other point select = values-held named.Count (rules_of rules other) point select
@@ -177,10 +167,7 @@ module _ (forgets : Forgets) (state : State Monomial) where
       valued-held named.Cost rules other point select = values-held named.Cost (rules_of rules other) point select
       valued-held named.Level rules other point select = values-held named.Level (rules_of rules other) point select
       valued-held named.Poly rules other point select = values-held named.Poly (rules_of rules other) point select
-      valued-held named.Witness [] None point select = minimal-held point select
-      valued-held named.Witness [] (Some n) point select = values-held named.Witness (rules_of [] (Some n)) point select
-      valued-held named.Witness (rule ∷ rules) None point select = values-held named.Witness (rules_of (rule ∷ rules) None) point select
-      valued-held named.Witness (rule ∷ rules) (Some n) point select = values-held named.Witness (rules_of (rule ∷ rules) (Some n)) point select
+      valued-held named.Witness rules other point select = values-held named.Witness (rules_of rules other) point select
 
       remaining-held : (patterns : List Rule) (point : y.Point) (select : Select) → dump_remaining patterns dump point select ≡ held_remaining patterns state point select
       remaining-held patterns point select =
@@ -220,11 +207,10 @@ module _ (state : State Monomial) (spans-kept : (table : ℕ) → state_spans (f
   dump-same : dump_of (forgetting state) ≡ dump_of state
   dump-same = ap (dump_with state.entries) (spans-same (length state.catalogue))
 
-  -- LOG and VERSIONS print the dump, and what would be with changes is told by the log. SAW, CHANGES and CONFLICTS tell what the machine held, of transactions whatever
-  -- became of them, HISTORY of those that committed; WHEN is told by its answers.
+  -- LOG, VERSIONS and CHANGES of a commit print the dump, and what would be with changes is told by the log. SAW, CHANGES of a statement and CONFLICTS tell what the
+  -- machine held, of transactions whatever became of them, HISTORY of those that committed; WHEN is told by its answers.
   module _ (whole : tables_in state.entries ≡ state.catalogue) (sees : (t k : ℕ) (query : y.Query) → answer_to (dump_of (forgetting state)) (y.ask (y.saw t k) query) ≡ held_to state (y.ask (y.saw t k) query))
       (alters : (t k : ℕ) → answer_to (dump_of (forgetting state)) (y.bare (y.changes t k)) ≡ held_to state (y.bare (y.changes t k)))
-      (commits : (t : ℕ) → answer_to (dump_of state) (y.bare (y.commit_changes t)) ≡ held_to state (y.bare (y.commit_changes t)))
       (meets : (t : ℕ) → answer_to (dump_of (forgetting state)) (y.bare (y.conflicts t)) ≡ held_to state (y.bare (y.conflicts t)))
       (lives : (name : y.Bytes) (cond : Option y.Term) → answer_to (dump_of (forgetting state)) (y.history name cond) ≡ held_to state (y.history name cond))
       (asks : (how : y.How) (point : y.Point) (query : y.Query) → answer_to (dump_of (forgetting state)) (y.ask (y.of_state how point) query) ≡ held_to state (y.ask (y.of_state how point) query))
@@ -247,7 +233,9 @@ module _ (state : State Monomial) (spans-kept : (table : ℕ) → state_spans (f
     held (y.bare (y.versions name)) =
         ap (λ (dump : Dump). answer_to dump (y.bare (y.versions name))) dump-same ∙ ap (λ (catalogue : List Table). versions_answer name (dump_of state).tables (place_of name catalogue)) whole
     held (y.bare (y.changes t k)) = alters t k
-    held (y.bare (y.commit_changes t)) = ap (λ (dump : Dump). answer_to dump (y.bare (y.commit_changes t))) dump-same ∙ commits t
+    held (y.bare (y.commit_changes t)) =
+        ap (λ (dump : Dump). answer_to dump (y.bare (y.commit_changes t))) dump-same
+        ∙ ap (λ (catalogue : List Table). unless_refused (transaction_refusal t state.entries) (option_map_or (commit_changes catalogue (dump_of state).tables) (version_of t state.entries) (Lines Changes []))) whole
     held (y.bare (y.conflicts t)) = meets t
     held (y.history name cond) = lives name cond
     held (y.when query) = when-same (query_to (dump_of (forgetting state))) (query_held state) of-subject state.entries query

@@ -151,42 +151,42 @@ module _ (dump : Dump) (table : ℕ) (is_asked : Identity → Bool) where
 
   written-told : (version t k : ℕ) (statement : Statement)
       → f.rows_changes is_asked version t (suc k) statement table (map system_row (rows_of dump t (suc k) statement))
-      ≡ map as-line (told-of version t (suc k) (changed_by t (suc k) statement (run_before unannotated (log_of dump.entries) t (suc k - 1) past)))
+      ≡ map as-line (told-of version t (suc k) (changed_by unannotated t (suc k) statement (run_before unannotated (log_of dump.entries) t (suc k - 1) past)))
   written-told version t k statement =
       let db : Database (Unit {0}) = run_before unannotated (log_of dump.entries) t (suc k - 1) past in
       let back : suc k - 1 ≡ k = omega arith in
       let looked : rows_of dump t (suc k) statement ≡ looked_at unannotated t (suc k) statement db = ap (λ n. looked_at unannotated t (suc n) statement db) back in
       ap (λ (rows : List Row). f.rows_changes is_asked version t (suc k) statement table (map system_row rows)) looked
       ∙ rows-told is_asked version t (suc k) statement table (looked_at unannotated t (suc k) statement db)
-      ∙ ap (λ (changes : List Change). map (line-of is_asked version t (suc k) statement table) (filter (λ (change : Change). is_asked change.0) changes)) (sym (changed-is t (suc k) statement db))
-      ∙ sym (map-map as-line (λ (change : Change). (change.0, s.history_text version t (suc k) change)) (filter (λ (change : Change). is_asked change.0) (changed_by t (suc k) statement db)))
+      ∙ ap (λ (changes : List Change). map (line-of is_asked version t (suc k) statement table) (filter (λ (change : Change). is_asked change.0) changes)) (sym (changed-is unannotated t (suc k) statement db))
+      ∙ sym (map-map as-line (λ (change : Change). (change.0, s.history_text version t (suc k) change)) (filter (λ (change : Change). is_asked change.0) (changed_by unannotated t (suc k) statement db)))
 
-  statement-told : (version t k : ℕ) → f.statement_changes dump table is_asked version t (suc k) (statement_at t (suc k) dump.entries) ≡ map as-line (told-of version t (suc k) (s.dump_changed dump table t (suc k)))
+  statement-told : (version t k : ℕ) → f.statement_changes dump table is_asked version t (suc k) (statement_at t (suc k) dump.entries) ≡ map as-line (told-of version t (suc k) (f.dump_changed dump table t (suc k)))
   statement-told version t k = by (statement_at t (suc k) dump.entries)
     where
       by : (found : Option Statement) → f.statement_changes dump table is_asked version t (suc k) found
           ≡ map as-line (told-of version t (suc k) (option_map_or (λ (statement : Statement).
-          cond (option_map_or (λ (place : ℕ). place == table) (target statement) false) (changed_by t (suc k) statement (run_before unannotated (log_of dump.entries) t (suc k - 1) past)) []) found []))
+          cond (option_map_or (λ (place : ℕ). place == table) (target statement) false) (changed_by unannotated t (suc k) statement (run_before unannotated (log_of dump.entries) t (suc k - 1) past)) []) found []))
       by None = refl
       by (Some statement) = elim (option_map_or (λ (place : ℕ). place == table) (target statement) false) as (λ b.
           cond b (f.rows_changes is_asked version t (suc k) statement table (map system_row (rows_of dump t (suc k) statement))) []
-          ≡ map as-line (told-of version t (suc k) (cond b (changed_by t (suc k) statement (run_before unannotated (log_of dump.entries) t (suc k - 1) past)) []))) [
+          ≡ map as-line (told-of version t (suc k) (cond b (changed_by unannotated t (suc k) statement (run_before unannotated (log_of dump.entries) t (suc k - 1) past)) []))) [
             | true ↦ written-told version t k statement
             | false ↦ refl
           ]
 
-  statements-told : (version k : ℕ) → f.first_changes dump table is_asked version (committer_of version dump.entries) k ≡ map as-line (s.statement_lines dump.entries is_asked (s.dump_changed dump table) version k)
+  statements-told : (version k : ℕ) → f.first_changes dump table is_asked version (committer_of version dump.entries) k ≡ map as-line (s.statement_lines dump.entries is_asked (f.dump_changed dump table) version k)
   statements-told version zero = refl
   statements-told version (suc k) =
       (λ i. statements-told version k i ++ statement-told version (committer_of version dump.entries) k i)
-      ∙ sym (map-append as-line (s.statement_lines dump.entries is_asked (s.dump_changed dump table) version k) (told-of version (committer_of version dump.entries) (suc k) (s.dump_changed dump table (committer_of version dump.entries) (suc k))))
+      ∙ sym (map-append as-line (s.statement_lines dump.entries is_asked (f.dump_changed dump table) version k) (told-of version (committer_of version dump.entries) (suc k) (f.dump_changed dump table (committer_of version dump.entries) (suc k))))
 
-  versions-told : (n : ℕ) → f.versions_changes dump table is_asked n ≡ map as-line (s.version_lines dump.entries is_asked (s.dump_changed dump table) n)
+  versions-told : (n : ℕ) → f.versions_changes dump table is_asked n ≡ map as-line (s.version_lines dump.entries is_asked (f.dump_changed dump table) n)
   versions-told zero = refl
   versions-told (suc u) =
       let t = committer_of (suc u) dump.entries in
       (λ i. versions-told u i ++ statements-told (suc u) (statement_count t dump.entries) i)
-      ∙ sym (map-append as-line (s.version_lines dump.entries is_asked (s.dump_changed dump table) u) (s.statement_lines dump.entries is_asked (s.dump_changed dump table) (suc u) (statement_count t dump.entries)))
+      ∙ sym (map-append as-line (s.version_lines dump.entries is_asked (f.dump_changed dump table) u) (s.statement_lines dump.entries is_asked (f.dump_changed dump table) (suc u) (statement_count t dump.entries)))
 
   abbrev by-identity : Told → Told → Ordering
   by-identity line other = identity_cmp line.0 other.0
@@ -227,10 +227,10 @@ module _ (dump : Dump) (table : ℕ) (is_asked : Identity → Bool) where
           ∙ map-map (λ (line : RowLine). line.1) as-line (sorted_by by-identity lines))
 
   -- the answer
-  pub listed-is : listed History (keyed_from 0 (few (f.versions_changes dump table is_asked (versions_in dump.entries)))) ≡ s.history_of dump.entries is_asked (s.dump_changed dump table)
+  pub listed-is : listed History (keyed_from 0 (few (f.versions_changes dump table is_asked (versions_in dump.entries)))) ≡ s.history_of dump.entries is_asked (f.dump_changed dump table)
   listed-is =
       ap (λ (lines : List RowLine). listed History (keyed_from 0 (few lines))) (versions-told (versions_in dump.entries))
-      ∙ listed-whole (s.version_lines dump.entries is_asked (s.dump_changed dump table) (versions_in dump.entries))
+      ∙ listed-whole (s.version_lines dump.entries is_asked (f.dump_changed dump table) (versions_in dump.entries))
 
 -- ---- one statement
 
@@ -256,19 +256,19 @@ module _ (dump : Dump) (table : ℕ) (is_asked : Identity → Bool) (version t k
 
 -- ---- a checked query
 
-module _ (dump : Dump) (table : ℕ) (select : Select) (asked : Identity → Bool) (same : (id : Identity) → asked id ≡ s.dump_asked dump table select id) where
+module _ (dump : Dump) (table : ℕ) (select : Select) (asked : Identity → Bool) (same : (id : Identity) → asked id ≡ f.dump_asked dump table select id) where
   abbrev rows : List (List Cell)
   rows = keyed_from 0 (few (f.versions_changes dump table asked (versions_in dump.entries)))
 
   -- the answer of what is found, or what it is refused for
   pub found-history : (refusal : Option Refusal) → {X : Type 0} (view : X → List (List Cell)) (found : X) → Looks view (Ok found) (given refusal rows)
-      → listed History (view found) ≡ unless_refused refusal (s.history_of dump.entries (s.dump_asked dump table select) (s.dump_changed dump table))
+      → listed History (view found) ≡ unless_refused refusal (s.history_of dump.entries (f.dump_asked dump table select) (f.dump_changed dump table))
   found-history None view found is =
-      ap (listed History) is ∙ listed-is dump table asked ∙ (λ i. s.history_of dump.entries (λ id. same id i) (s.dump_changed dump table))
+      ap (listed History) is ∙ listed-is dump table asked ∙ (λ i. s.history_of dump.entries (λ id. same id i) (f.dump_changed dump table))
   found-history (Some refusal) view found is = absurd is
 
   pub refused-history : (refusal : Option Refusal) → {X : Type 0} (view : X → List (List Cell)) (own : Refusal) → Looks view (Err (stop.Refused own)) (given refusal rows)
-      → Refused own ≡ unless_refused refusal (s.history_of dump.entries (s.dump_asked dump table select) (s.dump_changed dump table))
+      → Refused own ≡ unless_refused refusal (s.history_of dump.entries (f.dump_asked dump table select) (f.dump_changed dump table))
   refused-history None view own is = absurd is
   refused-history (Some refusal) view own is = ap Refused is
 
@@ -281,10 +281,10 @@ maker-known entries keeps u within =
     (λ i. lt-ltb 0 (committer_of (suc u) entries) (omega (arith, own.0)) i && le-leb (committer_of (suc u) entries) (transactions_in entries) own.1 i)
 
 -- what a version is refused for, later ones are
-pub stop-later : (dump : Dump) (refusal : Refusal) (u n : ℕ) → u ≤ n → s.stop_upto dump u ≡ Some refusal → s.stop_upto dump n ≡ Some refusal
-stop-later dump refusal u zero within is = let same : u ≡ zero = omega arith in ap (s.stop_upto dump) (sym same) ∙ is
+pub stop-later : (dump : Dump) (refusal : Refusal) (u n : ℕ) → u ≤ n → f.stop_upto dump u ≡ Some refusal → f.stop_upto dump n ≡ Some refusal
+stop-later dump refusal u zero within is = let same : u ≡ zero = omega arith in ap (f.stop_upto dump) (sym same) ∙ is
 stop-later dump refusal u (suc n) within is = by (nat_le u n) refl (λ below. stop-later dump refusal u n below is)
   where
-    by : (b : Bool) → nat_le u n ≡ b → (u ≤ n → s.stop_upto dump n ≡ Some refusal) → s.stop_upto dump (suc n) ≡ Some refusal
+    by : (b : Bool) → nat_le u n ≡ b → (u ≤ n → f.stop_upto dump n ≡ Some refusal) → f.stop_upto dump (suc n) ≡ Some refusal
     by true own rest = ap (λ (found : Option Refusal). option_or found (own_stop unannotated parameters dump.entries (y.Point.commit (committer_of (suc n) dump.entries)) (as_of unannotated (table_spans dump.tables)))) (rest (leb-true u n own))
-    by false own rest = let same : u ≡ suc n = omega (arith, leb-false u n own) in ap (s.stop_upto dump) (sym same) ∙ is
+    by false own rest = let same : u ≡ suc n = omega (arith, leb-false u n own) in ap (f.stop_upto dump) (sym same) ∙ is

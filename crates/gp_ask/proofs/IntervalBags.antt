@@ -6,8 +6,7 @@ use Rattle.std.proofs.lemmas.List.{append_assoc, map-append}
 use Rattle.gp_base.specs.declared.cell.Cell.{Cell}
 use Rattle.gp_base.proofs.Bags.{SameBag, before, first, same, same_from, through, to_front, mapped, filtered}
 use Rattle.gp_base.proofs.SmallLemmas.{and_nothing, and_none, filter-append, filter-map, filter_agree, map-map}
-use Rattle.gp_ask.specs.IntervalForms.{has_version}
-use Rattle.gp_ask.specs.Intervals.{Interval, ending_before, ending_with, first_with, interval_upto, intervals, numbered, times}
+use Rattle.gp_ask.specs.Intervals.{Interval, ending_before, ending_with, first_with, has_version, interval_upto, intervals, numbered, times}
 use Rattle.gp_ask.proofs.CarriedLemmas.{Ascends, pass, rows-are}
 
 abbrev Row : Type 0

@@ -1,4 +1,5 @@
 mod AnyPrograms
+mod AskedValues
 mod BackendLemmas
 mod CarriedLemmas
 mod CausesLemmas
@@ -6,12 +7,13 @@ mod ChangedLines
 pub mod ChangesLemmas
 mod ColumnNames
 mod CommitLines
-mod CommittedLines
+mod CommitTexts
 pub mod ConflictLemmas
 mod CountedLemmas
 mod DeletionLemmas
 mod DeltaLemmas
 mod DifferenceLemmas
+mod DifferentRows
 mod EndLemmas
 mod EntryLines
 mod ExplainedLemmas
@@ -50,9 +52,9 @@ mod ReenactedLemmas
 mod RemainingLemmas
 mod RememberedLemmas
 mod ReplayedViews
+mod RowCells
 pub mod RowLineLemmas
 mod SeenLemmas
-mod SerialChanges
 mod SerialCycles
 mod SerialDumps
 mod SerialHeld
@@ -70,6 +72,4 @@ mod TransactionRuns
 mod ValueLemmas
 mod WhatIfLemmas
 mod WhenLemmas
-mod WitnessLemmas
-mod WrittenCommits
 mod WrittenLines

@@ -62,7 +62,8 @@ use Rattle.gp_versions.specs.Spans.{holds_at, row_of, spans_at}
 use Rattle.gp_ask.specs.declared.answered.Answered.TheVariants.{Lines}
 use Rattle.gp_ask.specs.declared.answered.Heading.TheVariants.{Conflicts}
 use Rattle.gp_ask.specs.Asking.{table_spans}
-use Rattle.gp_ask.specs.Changes.{ends_at}
+use Rattle.gp_ask.specs.ChangeForms.{ends_at}
+use Rattle.gp_ask.specs.ConflictForms.{dump_wrote}
 use Rattle.gp_ask.specs.RowConflicts as s
 use Rattle.gp_ask.specs.RowConflicts.{based_cmp}
 use Rattle.gp_ask.specs.Seeing.{unknown_refusal}
@@ -399,7 +400,7 @@ module _ (state : State Monomial) (reached : IsReached monomials parameters stat
     -- ---- the commits that wrote its rows
 
     abbrev dump-writes : Based → ℕ → Bool
-    dump-writes own version = s.dump_wrote dump version own.pair
+    dump-writes own version = dump_wrote dump version own.pair
 
     abbrev held-writes : Based → ℕ → Bool
     held-writes own version = is_written own.pair.table own.pair.identity (state.written version)
@@ -518,7 +519,7 @@ module _ (state : State Monomial) (reached : IsReached monomials parameters stat
     -- ---- lines
 
     lines-same : (all : List Based) → AllByRecursion (λ (own : Based). s.first_writer (dump-writes own) own.base (upto - own.base) ≡ s.first_writer (held-writes own) own.base (upto - own.base)) all
-        → flat_map (s.conflict_lines state.entries state.catalogue (s.dump_wrote dump) upto) all
+        → flat_map (s.conflict_lines state.entries state.catalogue (dump_wrote dump) upto) all
         ≡ flat_map (s.conflict_lines state.entries state.catalogue (λ version pair. is_written pair.table pair.identity (state.written version)) upto) all
     lines-same [] alike = refl
     lines-same (own ∷ all) alike = λ i.
@@ -527,11 +528,11 @@ module _ (state : State Monomial) (reached : IsReached monomials parameters stat
 
     conflicts-same : s.dump_conflicts dump t ≡ s.history_conflicts state t
     conflicts-same =
-        ap (λ (stop : Option RunStop). unless_refused (option_map stop_refusal stop) (s.conflicts_of state.entries (tables_in state.entries) (s.dump_wrote dump) t (s.firsts (s.dump_written dump t count))))
+        ap (λ (stop : Option RunStop). unless_refused (option_map stop_refusal stop) (s.conflicts_of state.entries (tables_in state.entries) (dump_wrote dump) t (s.firsts (s.dump_written dump t count))))
         (passes-none parameters (forgetting state) plainly spans are t is.some is.known rise count (omega arith))
-        ∙ ap (λ (catalogue : List Table). s.conflicts_of state.entries catalogue (s.dump_wrote dump) t (s.firsts (s.dump_written dump t count))) kept
+        ∙ ap (λ (catalogue : List Table). s.conflicts_of state.entries catalogue (dump_wrote dump) t (s.firsts (s.dump_written dump t count))) kept
         ∙ ap (Lines Conflicts)
-        (ap (flat_map (s.conflict_lines state.entries state.catalogue (s.dump_wrote dump) upto)) sorted-same
+        (ap (flat_map (s.conflict_lines state.entries state.catalogue (dump_wrote dump) upto)) sorted-same
         ∙ lines-same (sorted_by based_cmp held-written) (all-sorted based_cmp (λ (own : Based). s.first_writer (dump-writes own) own.base (upto - own.base) ≡ s.first_writer (held-writes own) own.base (upto - own.base)) held-written same-writer))
 
   -- CONFLICTS of a number

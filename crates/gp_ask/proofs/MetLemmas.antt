@@ -10,7 +10,7 @@ use Rattle.gp_algebra.specs.Statements.{Statement}
 use Rattle.gp_machine.specs.Entries.{Entry}
 use Rattle.gp_versions.specs.declared.span.Span.{Span}
 use Rattle.gp_versions.specs.TableSpans.{least}
-use Rattle.gp_ask.specs.Changes.{ends_at}
+use Rattle.gp_ask.specs.ChangeForms.{ends_at}
 use Rattle.gp_ask.specs.ConflictForms.{any_met, met_at, met_by, met_in, met_line, row_conflict, rows_conflicts, within}
 use Rattle.gp_ask.specs.Keyed.{identity_of}
 use Rattle.gp_ask.specs.Looked.{is_written_by}

@@ -1,17 +1,15 @@
 -- What any transaction of a history saw and changed, whatever became of it, as the dump of the history answers it.
 use Rattle.std.proofs.Common.{◌≡◌, ℕ, zero, suc, ◌-◌, ◌<◌, ◌≤◌, nat_le, nat_lt, Bool, true, false, cond, List, length, map, Option, Some, None, Ok, refl, sym, ap, ◌∙◌, subst, arith}
 use Rattle.std.specs.Prelude.{◌&&◌, ◌==◌}
-use Rattle.std.specs.Option.{option_map, option_or}
-use Rattle.std.proofs.lemmas.Bool.{and_parts, eqb-true, leb-true, ltb-true}
+use Rattle.std.specs.Option.{option_map, option_map_or, option_or}
+use Rattle.std.proofs.lemmas.Bool.{and_parts, leb-true, ltb-true}
 use Rattle.gp_base.proofs.Bags.{SameBag, as_long, mapped, same_from, through}
 use Rattle.gp_base.proofs.Permutations.{permuted}
-use Rattle.gp_base.proofs.SmallLemmas.{eq_not, none_parts, some_none}
+use Rattle.gp_base.proofs.SmallLemmas.{none_parts, some_none}
 use Rattle.gp_base.specs.declared.refusal.Refusal.{Refusal}
 use Rattle.gp_base.specs.declared.refusal.Refusal.TheVariants.{E20, E22, E27}
 use Rattle.gp_base.specs.declared.table.Table.{Table}
 use Rattle.gp_base.specs.Annotated.{Annotated, Database, monomials, unannotated}
-use Rattle.gp_base.specs.Identities.{Identity}
-use Rattle.gp_base.specs.IdentityParts.{identity_statement, identity_transaction}
 use Rattle.gp_base.specs.Tokens.{Monomial}
 use Rattle.gp_grammar.specs.Syntax as y
 use Rattle.gp_algebra.proofs.Erasure.{answer_reannotated}
@@ -21,22 +19,20 @@ use Rattle.gp_algebra.specs.Effects.{step}
 use Rattle.gp_algebra.specs.Reannotation.{element_reannotated, forgotten, reannotated}
 use Rattle.gp_algebra.specs.Statements.{Select, Statement, target}
 use Rattle.gp_check.specs.Checking.{checked_query}
-use Rattle.gp_compose.specs.Seen.{changed_rows, changes_refusal, missing_statement_refusal, is_made_by, saw_refusal, unknown_refusal}
+use Rattle.gp_compose.specs.Seen.{changed_rows, changes_refusal, missing_statement_refusal, saw_refusal, unknown_refusal}
 use Rattle.gp_dump.specs.Dumps.{Dump}
 use Rattle.gp_log.proofs.KeptSessions.{rising}
 use Rattle.gp_log.specs.LogFacts.{tables_in}
 use Rattle.gp_log.specs.Parameters.{parameters}
 use Rattle.gp_log.specs.Sessions.{KeepsSessions}
-use Rattle.gp_machine.proofs.Distinct.{each_weaker}
 use Rattle.gp_machine.proofs.PointReannotation.{before_reannotated, forgotten_keeps, run_stop_reannotated}
 use Rattle.gp_machine.specs.Entries.{Entry, log_of, statement_at, statement_count, transactions_in, version_of}
-use Rattle.gp_machine.specs.Event.{name_at, target_of}
+use Rattle.gp_machine.specs.Event.{name_at}
 use Rattle.gp_machine.specs.HistorySpans.{as_of, state_spans}
 use Rattle.gp_machine.specs.Points.{RunStop, run_stop}
 use Rattle.gp_machine.specs.Questions.{answer_refusal, given, is_known, statement_refusal, stop_refusal}
 use Rattle.gp_machine.specs.Reached.{IsReached}
 use Rattle.gp_machine.specs.ReadBy.{start_by}
-use Rattle.gp_machine.specs.Reading.{wrote_by}
 use Rattle.gp_machine.specs.Runs.{run, run_before, stepped}
 use Rattle.gp_machine.specs.SeenRows.{HaveDifferentIdentities}
 use Rattle.gp_machine.specs.State.{State}
@@ -47,16 +43,15 @@ use Rattle.gp_ask.specs.declared.answered.Answered.TheVariants.{Lines, Rows}
 use Rattle.gp_ask.specs.declared.answered.Heading.TheVariants.{Changes}
 use Rattle.gp_ask.specs.Printed.{answer_to, held_to}
 use Rattle.gp_ask.specs.Asking.{of_elements, query_answer, table_spans}
-use Rattle.gp_ask.specs.ChangeForms.{changes_of, dump_changes, if_any}
-use Rattle.gp_ask.specs.Changes.{history_changes, written_texts}
+use Rattle.gp_ask.specs.ChangeForms.{changes_of, dump_changes, held_starts, if_any}
+use Rattle.gp_ask.specs.Changes.{statement_changes}
 use Rattle.gp_ask.specs.Values.{unless_refused}
 use Rattle.gp_ask.specs.Seeing.{dump_saw, history_saw}
 use Rattle.gp_ask.proofs.ChangedLines.{changed-different, changed-reannotated, changed-same, texts-same}
 use Rattle.gp_ask.proofs.HeldLemmas.{forgetting, same-rows}
 use Rattle.gp_ask.proofs.QueryLemmas.{query-same}
-use Rattle.gp_ask.proofs.StatementLines.{changes-told}
-use Rattle.gp_ask.proofs.TransactionRuns.{IsRising, MakesOnce, ReadsWithin, different-after, different-before, own-before, own-starts, passes-none, reads-within, runs-none, saw, started}
-use Rattle.gp_ask.proofs.WrittenLines.{IsFresh, changes-written}
+use Rattle.gp_ask.proofs.StatementLines.{changes-are, changes-told}
+use Rattle.gp_ask.proofs.TransactionRuns.{IsRising, MakesOnce, ReadsWithin, different-after, different-before, own-starts, passes-none, reads-within, runs-none, saw, started}
 use Rattle.gp_ask.proofs.ChangesLemmas.{numbered-by}
 use Rattle.gp_serial.proofs.RunningLemmas.{sorted_same}
 
@@ -144,6 +139,10 @@ module _ (state : State Monomial) (reached : IsReached monomials parameters stat
 
   -- ---- CHANGES of a statement
 
+  -- what a statement changed of what its transaction read by the rule of the history machine
+  abbrev held-changes : ℕ → ℕ → Statement → Answered
+  held-changes = statement_changes monomials state.entries state.catalogue (held_starts state) (λ t k. None)
+
   module _ (t k : ℕ) (is : IsTransaction t state.entries) (within : k < statement_count t state.entries) (statement : Statement) (here : statement_at t (suc k) state.entries ≡ Some statement) where
     -- what the statement read, by the rule of the history machine
     abbrev pub read-rows : Database Monomial
@@ -170,12 +169,6 @@ module _ (state : State Monomial) (reached : IsReached monomials parameters stat
         (changed-same unannotated t (suc k) statement (run_before unannotated (log_of state.entries) t k (as_of unannotated spans)) run-rows (started parameters (forgetting state) plainly spans are t is.some is.known (rises t) once k within))
         (same_from _ _ (changed-reannotated monomials unannotated forgotten (forgotten_keeps monomials) t (suc k) before run-rows same statement)))
 
-    -- what the transaction reads after the statement
-    pub left : state.views t (suc k) ≡ step monomials t (suc k) statement read-rows
-    left =
-        reached.views t (suc k) is.some is.known (omega arith)
-        ∙ ap (λ (own : Option Statement). stepped monomials t (suc k) own read-rows) here
-
     pub different-read : (table : ℕ) → HaveDifferentIdentities (read-rows table)
     different-read = different-before monomials state reached.history t bound.0 (rises t) bound.1 k within
 
@@ -184,38 +177,29 @@ module _ (state : State Monomial) (reached : IsReached monomials parameters stat
         subst (λ (own : Option Statement). HaveDifferentIdentities (stepped monomials t (suc k) own read-rows table)) here
         (different-after monomials state reached.history t bound.0 (rises t) bound.1 (suc k) (omega arith) table)
 
-    -- the statement made no row before it ran
-    pub fresh-read : (table : ℕ) → IsFresh monomials t (suc k) (read-rows table)
-    fresh-read table =
-        each_weaker (λ row. is_made_by t (suc k) row.identity ≡ false) (λ row. identity_transaction row.identity ≡ t → identity_statement row.identity ≤ k) (λ row earlier. not-made row.identity earlier (identity_transaction row.identity == t) refl) (read-rows table)
-        (own-before monomials state reached.history t bound.0 (rises t) bound.1 k within table)
-      where
-        not-made : (id : Identity) → (identity_transaction id ≡ t → identity_statement id ≤ k) → (b : Bool) → (identity_transaction id == t) ≡ b → (b && (identity_statement id == suc k)) ≡ false
-        not-made id earlier false own = refl
-        not-made id earlier true own = let most = earlier (eqb-true (identity_transaction id) t own) in eq_not (identity_statement id) (suc k) (λ same. omega (arith, most, same))
-
     pub different-rows : HaveDifferentIdentities changed
     different-rows = changed-different monomials t (suc k) statement read-rows different-read different-left
 
-    changes-are : (catalogue : List Table) (place : Option ℕ) → changes_of catalogue place statement (Ok found-rows) ≡ changes_of catalogue place statement (Ok changed)
-    changes-are catalogue None = refl
-    changes-are catalogue (Some place) = ap (Lines Changes) (texts-same (name_at place catalogue) statement found-rows changed moved-rows different-rows)
+    rows-told : (catalogue : List Table) (place : Option ℕ) → changes_of catalogue place statement (Ok found-rows) ≡ changes_of catalogue place statement (Ok changed)
+    rows-told catalogue None = refl
+    rows-told catalogue (Some place) = ap (Lines Changes) (texts-same (name_at place catalogue) statement found-rows changed moved-rows different-rows)
 
-    changes-same : dump_changes dump t k statement ≡ history_changes state t k
+    changes-same : dump_changes dump t k statement ≡ held-changes t k statement
     changes-same =
         ap (λ (catalogue : List Table). changes_of catalogue (target statement) statement (given (looked_refusal parameters state.entries spans t k statement) found-rows)) kept
         ∙ ap (λ (stop : Option RunStop). changes_of state.catalogue (target statement) statement (given (option_map stop_refusal stop) found-rows))
         (passes-none parameters (forgetting state) plainly spans are t is.some is.known (rises t) (suc k) (omega arith))
-        ∙ changes-are state.catalogue (target statement)
-        ∙ changes-written monomials t (suc k) state.catalogue statement read-rows (fresh-read (target_of statement)) (different-read (target_of statement)) (different-left (target_of statement))
-        ∙ (λ i. Lines Changes (written_texts state.catalogue (wrote_by monomials t (suc k) (sym here i) read-rows) read-rows (sym left i)))
+        ∙ rows-told state.catalogue (target statement)
+        ∙ sym (changes-are monomials state.entries state.catalogue (held_starts state) (λ t k. None) t k statement)
 
   pub alters : (t k : ℕ) → answer_to dump (y.bare (y.changes t k)) ≡ held_to state (y.bare (y.changes t k))
   alters t k = changes-told dump t k ∙ by (changes_refusal t k state.entries) refl
     where
       any : changes_refusal t k state.entries ≡ None → (found : Option Statement) → statement_at t k state.entries ≡ found
-          → if_any (dump_changes dump t (k - 1)) found ≡ history_changes state t (k - 1)
-      any none found here = go found (subst (λ n. statement_at t n state.entries ≡ found) next here)
+          → if_any (dump_changes dump t (k - 1)) found ≡ option_map_or (held-changes t (k - 1)) found (Lines Changes [])
+      any none None here = refl
+      any none (Some statement) here =
+          changes-same t (k - 1) (not-unknown t state.entries (is_known t state.entries) refl parts.0) (omega (arith, within.0, within.1)) statement (subst (λ n. statement_at t n state.entries ≡ Some statement) next here)
         where
           parts : (unknown_refusal t state.entries ≡ None) × (statement_refusal t k state.entries ≡ None)
           parts = none_parts (unknown_refusal t state.entries) (statement_refusal t k state.entries) none
@@ -226,14 +210,7 @@ module _ (state : State Monomial) (reached : IsReached monomials parameters stat
           next : k ≡ suc (k - 1)
           next = omega (arith, within.0)
 
-          go : (found : Option Statement) → statement_at t (suc (k - 1)) state.entries ≡ found → if_any (dump_changes dump t (k - 1)) found ≡ history_changes state t (k - 1)
-          go None is =
-              let own : Database Monomial = start_by monomials (log_of state.entries) t (k - 1) state.committed in
-              λ i. Lines Changes (written_texts state.catalogue (wrote_by monomials t (suc (k - 1)) (sym is i) own) own (state.views t (suc (k - 1))))
-          go (Some statement) is =
-              changes-same t (k - 1) (not-unknown t state.entries (is_known t state.entries) refl parts.0) (omega (arith, within.0, within.1)) statement is
-
       by : (refusal : Option Refusal) → changes_refusal t k state.entries ≡ refusal
-          → unless_refused refusal (if_any (dump_changes dump t (k - 1)) (statement_at t k state.entries)) ≡ unless_refused refusal (history_changes state t (k - 1))
+          → unless_refused refusal (if_any (dump_changes dump t (k - 1)) (statement_at t k state.entries)) ≡ unless_refused refusal (option_map_or (held-changes t (k - 1)) (statement_at t k state.entries) (Lines Changes []))
       by None none = any none (statement_at t k state.entries) refl
       by (Some refusal) is = refl

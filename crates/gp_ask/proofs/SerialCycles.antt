@@ -2,39 +2,40 @@
 use Rattle.std.proofs.Common.{◌≡◌, ◌≢◌, ◌⊎◌, ◌<◌, ◌≤◌, ◌+◌, ◌-◌, ℕ, zero, suc, Bool, true, false, cond, List, [], ◌∷◌, ◌++◌, length, map, get_or, Option, Some, None, refl, sym, ap, ◌∙◌, subst, arith, inl, inr}
 use Rattle.std.specs.Prelude.{◌==◌, ◌&&◌, ◌||◌, filter, find, nat_le, nat_lt, not, slice_get, unwrap_or, is_some}
 use Rattle.std.specs.List.{AllByRecursion, flat_map, list_any}
-use Rattle.std.specs.Option.{option_and_then, option_map_or}
+use Rattle.std.specs.Option.{option_map_or}
 use Rattle.std.proofs.lemmas.Bool.{and_parts, eqb-true, false≢true}
 use Rattle.std.proofs.lemmas.Bool.Decides.{nat_tests}
 use Rattle.std.proofs.lemmas.Option.{same_Some}
-use Rattle.gp_base.specs.declared.cell.Cell.{Cell}
 use Rattle.gp_base.specs.declared.table.Table.{Table}
-use Rattle.gp_base.specs.Annotated.{Annotated, unannotated}
-use Rattle.gp_base.specs.Identities.{Identity, same_identity}
+use Rattle.gp_base.specs.Annotated.{unannotated}
+use Rattle.gp_base.specs.Identities.{same_identity}
 use Rattle.gp_base.specs.Order.{sorted_by}
 use Rattle.gp_base.proofs.SmallLemmas.{each_append, eq_itself, some_none}
 use Rattle.gp_algebra.specs.Reannotation.{forgotten, reannotated}
-use Rattle.gp_versions.proofs.SameLemmas.{same-exact, same-sym}
+use Rattle.gp_versions.proofs.SameLemmas.{same-exact}
 use Rattle.gp_versions.specs.declared.span.Span.{Span}
 use Rattle.gp_versions.specs.Spans.{rows_at, span_cmp}
 use Rattle.gp_versions.specs.TableSpans.{AreWhole, NoOverlap}
+use Rattle.gp_machine.specs.Committed.{is_written}
 use Rattle.gp_machine.specs.Entries.{Entry, Began, Committed, Created, Ended, Ran, committer_of, statement_at, statement_count, statement_version, versions_in, transactions_in, version_of}
 use Rattle.gp_machine.specs.HistorySpans.{state_spans}
 use Rattle.gp_machine.specs.Looks.{looks}
 use Rattle.gp_machine.specs.Precedence.{Reason, ReadAfter, ReadBefore, Wrote, changes_by, is_before, looked_at, meets, numbers, read_after, read_before, reasons, same_row, wrote_before}
 use Rattle.gp_machine.specs.RowChanges as m
-use Rattle.gp_machine.specs.RowChanges.{RowChange, cells_before, deleted_changes, goes_on_in, span_changes, spans_changes, tables_changes}
+use Rattle.gp_machine.specs.RowChanges.{RowChange, deleted_changes, goes_on_in, span_changes, spans_changes, tables_changes}
 use Rattle.gp_machine.specs.SeenRows.{HaveDifferentIdentities}
 use Rattle.gp_machine.specs.State.{State}
 use Rattle.gp_serial.specs.Graphs.{closes, is_cycle, least_cycle, lists_of}
-use Rattle.gp_serial.specs.Serializing.{Step, by_number, step_of, steps_of, steps_to}
+use Rattle.gp_serial.specs.Serializing.{by_number, step_of, steps_of, steps_to}
 use Rattle.gp_serial.proofs.AgreeLemmas.{all_lists_in}
-use Rattle.gp_serial.proofs.Anys.{by_both, there_is}
-use Rattle.gp_ask.specs.Changes.{cells_in, ends_at, goes_on, row_before}
+use Rattle.gp_serial.proofs.Anys.{there_is}
+use Rattle.gp_ask.specs.ChangeForms.{ends_at, goes_on, row_before}
 use Rattle.gp_ask.specs.SerialAnswers.{step_text}
-use Rattle.gp_ask.specs.SerialHistories.{AreSteps, IsChangeBy, IsReason, IsStep, LooksAt}
+use Rattle.gp_ask.specs.SerialHistories.{AreSteps, IsChangeBy, IsReason, IsStep, IsTrue, LooksAt, cells_in}
 use Rattle.gp_ask.specs.ShownWrites as shown
-use Rattle.gp_ask.proofs.CommitLines.{IsIn, Told, are-told, changes_in, side-is}
-use Rattle.gp_ask.proofs.WrittenCommits.{cells-are}
+use Rattle.gp_ask.proofs.CommitLines.{IsIn, Told, Yields, are-told, begins-written, changes_in, ends-written, side-is}
+use Rattle.gp_ask.proofs.CommitTexts.{goes_same}
+use Rattle.gp_ask.proofs.RowCells.{cells-are}
 
 -- ---- the changes of a version, among those of all versions
 
@@ -62,17 +63,6 @@ among_last x (y ∷ ys) zs is = inr (among_last x ys zs is)
 each_weaker : {A : Type 0} (P Q : A → Type 0) → ((x : A) → P x → Q x) → (xs : List A) → AllByRecursion P xs → AllByRecursion Q xs
 each_weaker P Q weaker [] all = tt
 each_weaker P Q weaker (x ∷ xs) (own, all) = (weaker x own, each_weaker P Q weaker xs all)
-
-turned : (a b : ℕ) → (a == b) ≡ (b == a)
-turned a b = by_both (a == b) (b == a) (λ e. ap (λ x. b == x) (eqb-true a b e) ∙ eq_itself b) (λ e. ap (λ x. a == x) (eqb-true b a e) ∙ eq_itself a)
-
-same_turned : (id other : Identity) → same_identity id other ≡ same_identity other id
-same_turned id other = by_both (same_identity id other) (same_identity other id) (same-sym id other) (same-sym other id)
-
--- a span that ends with a version goes on in the next one
-goes_same : (to : ℕ) (span : Span) (next : Option Span) → span.to ≡ Some to → option_map_or (goes_on_in span) next false ≡ goes_on to span next
-goes_same to span None ends = refl
-goes_same to span (Some next) ends = λ i. option_map_or (λ (to : ℕ). turned to next.from i) (ends i) false && same_turned span.id next.id i
 
 begun_among : (last : Option Span) (span : Span) (spans : List Span) (rest : List shown.RowChange)
     → IsAmong (record { id = span.id; before = row_before span.from last span; after = Some span.row })
@@ -145,12 +135,14 @@ made_some version (Committed line session t ∷ older) some = by (suc (versions_
 module _ (state : State (Unit {0})) (rows : (version table : ℕ) → version ≤ versions_in state.entries → rows_at unannotated version (state_spans state table) ≡ map (reannotated forgotten) (state.committed version table))
     (apart : (table : ℕ) → NoOverlap (state_spans state table)) (whole : (table : ℕ) → AreWhole (state_spans state table))
     (different : (version table : ℕ) → version ≤ versions_in state.entries → HaveDifferentIdentities (state.committed version table)) where
-  -- the change is one of the transaction that made its version
-  abbrev pub IsTrue : RowChange → Type 0
-  IsTrue change = 0 < committer_of change.version state.entries → IsChangeBy state (committer_of change.version state.entries) change
+  -- a row of a span that begins or ends with a version was written by its commit
+  yields_written : (table version : ℕ) (y : Span) → IsIn y (state_spans state table) → Yields version y → is_written table y.id (state.written version) ≡ true
+  yields_written table version y is (inl begins) =
+      subst (λ n. is_written table y.id (state.written n) ≡ true) begins (begins-written (versions_in state.entries) state.committed state.written table y is)
+  yields_written table version y is (inr to) = ends-written (versions_in state.entries) state.committed state.written table y version is to
 
   true_in : (table : ℕ) (change : RowChange) → change.row.table ≡ table
-      → ((p : ℕ) → change.version ≡ suc p → IsAmong (own_change change) (changes_in (suc p) None (sorted_by span_cmp (state_spans state table)))) → IsTrue change
+      → ((p : ℕ) → change.version ≡ suc p → IsAmong (own_change change) (changes_in (suc p) None (sorted_by span_cmp (state_spans state table)))) → IsTrue state change
   true_in table change at found some =
       let made = made_some change.version state.entries some in
       let p : ℕ = change.version - 1 in
@@ -161,6 +153,10 @@ module _ (state : State (Unit {0})) (rows : (version table : ℕ) → version �
       record {
         maker = refl;
         first = made.0;
+        written =
+            subst (λ id. is_written change.row.table id (state.written change.version) ≡ true) (sym told.comes.1.1.0)
+            (subst (λ t. is_written t told.comes.0.id (state.written change.version) ≡ true) (sym at)
+            (subst (λ v. is_written table told.comes.0.id (state.written v) ≡ true) (sym is) (yields_written table (suc p) told.comes.0 told.comes.1.0 told.comes.1.1.1)));
         before = ap (λ t. cells_in change.row.identity (state.committed p t)) at
             ∙ cells-are (state.committed p table) change.row.identity change.before (different p table (omega (arith, made.1)))
             (side-is p (state_spans state table) (state.committed p table) (rows p table (omega (arith, made.1))) p change.row.identity change.before told.before);
@@ -191,19 +187,19 @@ module _ (state : State (Unit {0})) (rows : (version table : ℕ) → version �
   every P [] all = tt
   every P (x ∷ xs) all = ((λ p. (all p).0), every P xs (λ p. (all p).1))
 
-  table_true : (table : ℕ) → AllByRecursion IsTrue (spans_changes table None (sorted_by span_cmp (state_spans state table)))
+  table_true : (table : ℕ) → AllByRecursion (IsTrue state) (spans_changes table None (sorted_by span_cmp (state_spans state table)))
   table_true table =
       let sorted : List Span = sorted_by span_cmp (state_spans state table) in
-      each_both (λ (x : RowChange). x.row.table ≡ table) (λ (x : RowChange). (p : ℕ) → x.version ≡ suc p → IsAmong (own_change x) (changes_in (suc p) None sorted)) IsTrue
+      each_both (λ (x : RowChange). x.row.table ≡ table) (λ (x : RowChange). (p : ℕ) → x.version ≡ suc p → IsAmong (own_change x) (changes_in (suc p) None sorted)) (IsTrue state)
       (λ x at found. true_in table x at found) (spans_changes table None sorted) (table_in table None sorted)
       (every (λ p (x : RowChange). x.version ≡ suc p → IsAmong (own_change x) (changes_in (suc p) None sorted)) (spans_changes table None sorted) (λ p. matched table (suc p) None sorted))
 
   -- those of some tables
-  pub tables_true : (first : ℕ) (tables : List (List Span)) → ((i : ℕ) → i < length tables → get_or tables i [] ≡ sorted_by span_cmp (state_spans state (first + i))) → AllByRecursion IsTrue (tables_changes first tables)
+  pub tables_true : (first : ℕ) (tables : List (List Span)) → ((i : ℕ) → i < length tables → get_or tables i [] ≡ sorted_by span_cmp (state_spans state (first + i))) → AllByRecursion (IsTrue state) (tables_changes first tables)
   tables_true first [] are = tt
   tables_true first (own ∷ tables) are =
-      each_append IsTrue (spans_changes first None own) (tables_changes (suc first) tables)
-      (subst (λ spans. AllByRecursion IsTrue (spans_changes first None spans)) (sym (are zero (omega arith) ∙ ap (λ n. sorted_by span_cmp (state_spans state n)) (plus_none first))) (table_true first))
+      each_append (IsTrue state) (spans_changes first None own) (tables_changes (suc first) tables)
+      (subst (λ spans. AllByRecursion (IsTrue state) (spans_changes first None spans)) (sym (are zero (omega arith) ∙ ap (λ n. sorted_by span_cmp (state_spans state n)) (plus_none first))) (table_true first))
       (tables_true (suc first) tables (λ i l. are (suc i) (omega (arith, l)) ∙ ap (λ n. sorted_by span_cmp (state_spans state n)) (plus_suc first i)))
     where
       plus_none : (n : ℕ) → n + 0 ≡ n
@@ -214,7 +210,7 @@ module _ (state : State (Unit {0})) (rows : (version table : ℕ) → version �
 
   -- ---- reasons
 
-  module _ (tables : List Table) (catalogue : tables ≡ state.catalogue) (changes : List RowChange) (all : AllByRecursion IsTrue changes) (a b : ℕ) (some_a : 0 < a) (some_b : 0 < b) where
+  module _ (tables : List Table) (catalogue : tables ≡ state.catalogue) (changes : List RowChange) (all : AllByRecursion (IsTrue state) changes) (a b : ℕ) (some_a : 0 < a) (some_b : 0 < b) where
     kept_each : {A : Type 0} (P Q : A → Type 0) (q : A → Bool) → ((x : A) → P x → q x ≡ true → Q x) → (xs : List A) → AllByRecursion P xs → AllByRecursion Q (filter q xs)
     kept_each P Q q keeps [] all = tt
     kept_each P Q q keeps (x ∷ xs) (own, all) = by (q x) refl (kept_each P Q q keeps xs all)
@@ -236,7 +232,7 @@ module _ (state : State (Unit {0})) (rows : (version table : ℕ) → version �
     mapped_each P Q f holds (x ∷ xs) (own, all) = (holds x own, mapped_each P Q f holds xs all)
 
     own_by : (t : ℕ) → 0 < t → AllByRecursion (IsChangeBy state t) (changes_by tables state.entries changes t)
-    own_by t some = kept_each IsTrue (IsChangeBy state t) (λ (change : RowChange). committer_of change.version state.entries == t) (λ change true_so is.
+    own_by t some = kept_each (IsTrue state) (IsChangeBy state t) (λ (change : RowChange). committer_of change.version state.entries == t) (λ change true_so is.
         let own = eqb-true (committer_of change.version state.entries) t is in
         subst (λ u. IsChangeBy state u change) own (true_so (subst (λ u. 0 < u) (sym own) some))) changes all
 
@@ -286,8 +282,9 @@ module _ (state : State (Unit {0})) (rows : (version table : ℕ) → version �
     whole_list = read_before tables state.entries changes a b ++ (read_after tables state.entries changes a b ++ wrote_before tables state.entries changes a b)
 
     -- a transaction that comes before another one does so for a true reason, and its line says so
-    pub step_true : is_before tables state.entries changes a b ≡ true → IsStep state a b (step_text tables state.entries (step_of tables state.entries changes a b))
-    step_true e = by (a == b) refl whole_list refl e
+    pub step_true : is_some (version_of a state.entries) ≡ true → is_before tables state.entries changes a b ≡ true
+        → IsStep state a b (step_text tables state.entries (step_of tables state.entries changes a b))
+    step_true committed e = by (a == b) refl whole_list refl e
       where
         true_list : AllByRecursion (IsReason state a b) whole_list
         true_list = each_append (IsReason state a b) (read_before tables state.entries changes a b) _ before_true
@@ -305,6 +302,7 @@ module _ (state : State (Unit {0})) (rows : (version table : ℕ) → version �
         by false is [] are e = absurd (none e)
         by false is (reason ∷ list) are e = record {
           two = λ same. false≢true (sym is ∙ ap (λ x. a == x) (sym same) ∙ eq_itself a);
+          committed = committed;
           reason = reason;
           is = (subst (AllByRecursion (IsReason state a b)) are true_list).0;
           text = λ i. step_text (catalogue i) state.entries (record { first = a; next = b; reason = (ap (λ b. slice_get (cond b [] whole_list) 0) is ∙ ap (λ list. slice_get list 0) are) i });
@@ -312,14 +310,18 @@ module _ (state : State (Unit {0})) (rows : (version table : ℕ) → version �
 
   -- ---- cycles
 
-  module _ (tables : List Table) (catalogue : tables ≡ state.catalogue) (changes : List RowChange) (all : AllByRecursion IsTrue changes) where
-    steps_true : (first : ℕ) (list : List ℕ) → 0 < first → AllByRecursion (λ t. 0 < t) list → closes (is_before tables state.entries changes) first list ≡ true
+  module _ (tables : List Table) (catalogue : tables ≡ state.catalogue) (changes : List RowChange) (all : AllByRecursion (IsTrue state) changes) where
+    -- a transaction that committed; numbers begin with 1
+    abbrev IsMember : ℕ → Type 0
+    IsMember t = (0 < t) × (is_some (version_of t state.entries) ≡ true)
+
+    steps_true : (first : ℕ) (list : List ℕ) → 0 < first → AllByRecursion IsMember list → closes (is_before tables state.entries changes) first list ≡ true
         → AreSteps state first list (map (step_text tables state.entries) (steps_to tables state.entries changes first list))
     steps_true first [] some each e = absurd (false≢true e)
-    steps_true first (a ∷ []) some (own, each) e = step_true tables catalogue changes all a first own some e
+    steps_true first (a ∷ []) some (own, each) e = step_true tables catalogue changes all a first own.0 some own.1 e
     steps_true first (a ∷ b ∷ others) some (own, each) e =
         let parts = and_parts (is_before tables state.entries changes a b) (closes (is_before tables state.entries changes) first (b ∷ others)) e in
-        (step_true tables catalogue changes all a b own each.0 parts.0, steps_true first (b ∷ others) some each parts.1)
+        (step_true tables catalogue changes all a b own.0 each.0.0 own.1 parts.0, steps_true first (b ∷ others) some each parts.1)
 
     found_in : (P : List ℕ → Type 0) (p : List ℕ → Bool) (lists : List (List ℕ)) (list : List ℕ) → AllByRecursion P lists → find p lists ≡ Some list → P list × (p list ≡ true)
     found_in P p [] list all e = absurd (some_none list (sym e))
@@ -333,13 +335,13 @@ module _ (state : State (Unit {0})) (rows : (version table : ℕ) → version �
     positive zero = tt
     positive (suc n) = each_append (λ t. 0 < t) (numbers n) (suc n ∷ []) (positive n) (omega arith, tt)
 
-    each_filter : (P : ℕ → Type 0) (p : ℕ → Bool) (xs : List ℕ) → AllByRecursion P xs → AllByRecursion P (filter p xs)
+    each_filter : (P : ℕ → Type 0) (p : ℕ → Bool) (xs : List ℕ) → AllByRecursion P xs → AllByRecursion (λ x. P x × (p x ≡ true)) (filter p xs)
     each_filter P p [] all = tt
-    each_filter P p (x ∷ xs) (own, all) = by (p x) (each_filter P p xs all)
+    each_filter P p (x ∷ xs) (own, all) = by (p x) refl (each_filter P p xs all)
       where
-        by : (b : Bool) → AllByRecursion P (filter p xs) → AllByRecursion P (cond b (x ∷ filter p xs) (filter p xs))
-        by true rest = (own, rest)
-        by false rest = rest
+        by : (b : Bool) → p x ≡ b → AllByRecursion (λ x. P x × (p x ≡ true)) (filter p xs) → AllByRecursion (λ x. P x × (p x ≡ true)) (cond b (x ∷ filter p xs) (filter p xs))
+        by true is rest = ((own, is), rest)
+        by false is rest = rest
 
     -- a least cycle is one of true steps
     pub cycle_true : (first : ℕ) (others : List ℕ) → least_cycle (is_before tables state.entries changes) (by_number state.entries) ≡ first ∷ others
@@ -347,7 +349,7 @@ module _ (state : State (Unit {0})) (rows : (version table : ℕ) → version �
     cycle_true first others is =
         by (find (is_cycle (is_before tables state.entries changes)) (flat_map (λ n. lists_of n (by_number state.entries)) (numbers (length (by_number state.entries))))) refl is
       where
-        numbered : AllByRecursion (λ t. 0 < t) (by_number state.entries)
+        numbered : AllByRecursion IsMember (by_number state.entries)
         numbered = each_filter (λ t. 0 < t) (λ t. is_some (version_of t state.entries)) (numbers (transactions_in state.entries)) (positive (transactions_in state.entries))
 
         by : (found : Option (List ℕ)) → find (is_cycle (is_before tables state.entries changes)) (flat_map (λ n. lists_of n (by_number state.entries)) (numbers (length (by_number state.entries)))) ≡ found
@@ -357,7 +359,7 @@ module _ (state : State (Unit {0})) (rows : (version table : ℕ) → version �
             empty : [] ≡ first ∷ others → ⊥
             empty is = absurd cc
         by (Some list) e is =
-            let own = found_in (AllByRecursion (λ t. 0 < t)) (is_cycle (is_before tables state.entries changes)) (flat_map (λ n. lists_of n (by_number state.entries)) (numbers (length (by_number state.entries)))) list
-            (all_lists_in (is_before tables state.entries changes) (is_before tables state.entries changes) (λ t. 0 < t) (λ a b one two. refl) (numbers (length (by_number state.entries))) (by_number state.entries) numbered) e in
-            let each = subst (AllByRecursion (λ t. 0 < t)) is own.0 in
-            steps_true first (first ∷ others) each.0 each (subst (λ l. is_cycle (is_before tables state.entries changes) l ≡ true) is own.1)
+            let own = found_in (AllByRecursion IsMember) (is_cycle (is_before tables state.entries changes)) (flat_map (λ n. lists_of n (by_number state.entries)) (numbers (length (by_number state.entries)))) list
+            (all_lists_in (is_before tables state.entries changes) (is_before tables state.entries changes) IsMember (λ a b one two. refl) (numbers (length (by_number state.entries))) (by_number state.entries) numbered) e in
+            let each = subst (AllByRecursion IsMember) is own.0 in
+            steps_true first (first ∷ others) each.0.0 each (subst (λ l. is_cycle (is_before tables state.entries changes) l ≡ true) is own.1)

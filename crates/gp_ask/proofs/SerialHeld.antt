@@ -1,5 +1,5 @@
 -- What the answers to SERIAL say of a history, given what holds of its row versions.
-use Rattle.std.proofs.Common.{◌≡◌, ◌+◌, ◌<◌, ◌≤◌, ℕ, suc, true, false, List, [], ◌∷◌, Bool, length, map, get_or, None, refl, sym, ap, ◌∙◌, subst, arith}
+use Rattle.std.proofs.Common.{◌≡◌, ◌+◌, ◌<◌, ◌≤◌, ℕ, suc, true, false, List, [], ◌∷◌, Bool, length, map, None, refl, sym, ap, ◌∙◌, subst, arith}
 use Rattle.std.specs.List.{AllByRecursion}
 use Rattle.std.specs.List.Sorted.{IsPermutation}
 use Rattle.gp_base.specs.declared.table.Table.{Table}
@@ -20,7 +20,7 @@ use Rattle.gp_machine.specs.SerialForms.{AreOnce, IsSerialAs, committers}
 use Rattle.gp_machine.specs.SerialRuns.{is_serial}
 use Rattle.gp_machine.specs.State.{State}
 use Rattle.gp_versions.specs.declared.span.Span.{Span}
-use Rattle.gp_versions.specs.Spans.{row_of, rows_at, span_cmp, spans_at}
+use Rattle.gp_versions.specs.Spans.{rows_at, span_cmp, spans_at}
 use Rattle.gp_versions.specs.TableSpans.{AreOfDifferentRows, AreWhole, NoOverlap}
 use Rattle.gp_serial.specs.Graphs.{order_of}
 use Rattle.gp_serial.specs.Serializing as s
@@ -32,12 +32,11 @@ use Rattle.gp_ask.specs.declared.answered.Heading.TheVariants.{Cycle, Serial}
 use Rattle.gp_ask.specs.Asking.{table_spans}
 use Rattle.gp_ask.specs.Questions.{is_refused}
 use Rattle.gp_ask.specs.SerialAnswers.{serial_answer}
-use Rattle.gp_ask.specs.SerialHistories.{AreSteps, RunsInCycle, RunsSerially}
-use Rattle.gp_ask.proofs.CommittedLines.{different-spans, different-unmapped}
-use Rattle.gp_ask.proofs.SerialChanges.{changed_same}
+use Rattle.gp_ask.specs.SerialHistories.{AreSteps, IsTrue, RunsInCycle, RunsSerially}
+use Rattle.gp_ask.proofs.DifferentRows.{different-spans, different-unmapped}
 use Rattle.gp_ask.proofs.SerialCycles.{cycle_true, tables_true}
 use Rattle.gp_ask.proofs.SerialLemmas.{cycle_given, is_answered, none_refused, order_given}
-use Rattle.gp_ask.proofs.SpanLemmas.{dumped, in-order, listed}
+use Rattle.gp_ask.proofs.SpanLemmas.{dumped, in-order}
 
 module _ (state : State (Unit {0})) (keeps : KeepsSessions state.entries) (whole : tables_in state.entries ≡ state.catalogue)
     (beyond : (table : ℕ) → length state.catalogue ≤ table → state_spans state table ≡ []) where
@@ -68,7 +67,6 @@ module _ (state : State (Unit {0})) (keeps : KeepsSessions state.entries) (whole
         order = order;
         numbers = found.numbers;
         serial = same;
-        changes = λ t k statement there few here. changed_same t (suc k) statement _ _ (same.changes t k statement there few here);
       }
 
   -- ---- a cycle
@@ -81,6 +79,12 @@ module _ (state : State (Unit {0})) (keeps : KeepsSessions state.entries) (whole
         different-unmapped (state.committed version table)
         (subst (λ (own : List (Annotated (Unit {0}))). HaveDifferentIdentities own) (rows version table within) (different-spans (spans_at version (state_spans state table)) (one_row version table)))
 
+    -- each change that its row versions show is true
+    pub all_true : AllByRecursion (IsTrue state) (tables_changes 0 (dump_of state).tables)
+    all_true =
+        tables_true state rows apart are_whole different 0 (dump_of state).tables
+        (λ i l. in-order state beyond i ∙ (let same : i ≡ 0 + i = omega arith in ap (λ n. sorted_by span_cmp (state_spans state n)) same))
+
     pub runs_in_cycle : (texts : List (List ℕ)) → serial_answer (dump_of state) ≡ Lines Cycle texts → RunsInCycle state texts
     runs_in_cycle texts e =
         let found = cycle_given tables state.entries (tables_changes 0 (dump_of state).tables) spans texts _ e in
@@ -88,8 +92,7 @@ module _ (state : State (Unit {0})) (keeps : KeepsSessions state.entries) (whole
           first = found.first;
           others = found.others;
           steps = subst (AreSteps state found.first (found.first ∷ found.others)) (sym found.lines)
-              (cycle_true state rows apart are_whole different tables whole (tables_changes 0 (dump_of state).tables)
-              (tables_true state rows apart are_whole different 0 (dump_of state).tables (λ i l. in-order state beyond i ∙ (let same : i ≡ 0 + i = omega arith in ap (λ n. sorted_by span_cmp (state_spans state n)) same))) found.first found.others found.is);
+              (cycle_true state rows apart are_whole different tables whole (tables_changes 0 (dump_of state).tables) all_true found.first found.others found.is);
         }
 
   -- ---- no refusal

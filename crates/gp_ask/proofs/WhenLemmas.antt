@@ -37,7 +37,7 @@ use Rattle.gp_ask.specs.declared.answered.Answered.TheVariants.{Lines, Refused}
 use Rattle.gp_ask.specs.declared.answered.Heading.TheVariants.{When}
 use Rattle.gp_ask.specs.Asking.{asked, of_elements, table_spans}
 use Rattle.gp_ask.specs.AskingForms.{dump_rows}
-use Rattle.gp_ask.specs.Changes.{ends_at}
+use Rattle.gp_ask.specs.ChangeForms.{ends_at}
 use Rattle.gp_ask.specs.Differences.{rows_in}
 use Rattle.gp_ask.specs.IntervalForms as f
 use Rattle.gp_ask.specs.Intervals.{Interval, ending_before, ending_with, interval_cmp, interval_lines, interval_text, interval_upto, intervals, numbered, refusal_upto, times, version_rows}

@@ -2,7 +2,7 @@
 -- first that applies: its version, transaction or statement is not in the log, the check of its query, a number of its rules that is not in the
 -- semiring, for provenance, values and what remains without some rows a version that the log does not give, a limit that the statements of a transaction
 -- pass, the number of its rows.
-use Rattle.std.specs.Prelude.{ℕ, Bool, List, [], ◌∷◌, map, Option, None, Result, Err, slice_index_or, if◌then◌else◌}
+use Rattle.std.specs.Prelude.{ℕ, Bool, List, [], ◌∷◌, map, Option, Result, Err, slice_index_or, if◌then◌else◌}
 use Rattle.std.specs.Option.{option_map_or}
 use Rattle.std.specs.Ordering.{is_eq}
 use Rattle.std.specs.declared.cmp.Ordering.{Ordering}
@@ -11,7 +11,6 @@ use Rattle.gp_base.specs.Annotated.{monomials}
 use Rattle.gp_base.specs.Order.{row_cmp, sorted_by}
 use Rattle.gp_base.specs.Tokens.{Monomial}
 use Rattle.gp_grammar.specs.declared.semiring_name.SemiringName.{SemiringName}
-use Rattle.gp_grammar.specs.declared.semiring_name.SemiringName.TheVariants as named
 use Rattle.gp_grammar.specs.Syntax as y
 use Rattle.gp_versions.specs.declared.span.Span.{Span}
 use Rattle.gp_algebra.specs.Answers.{Element, answer, cells_of}
@@ -25,7 +24,6 @@ use Rattle.gp_log.specs.Parameters.{parameters}
 use Rattle.gp_log.specs.LogFacts.{tables_in}
 use Rattle.gp_dump.specs.Dumps.{Dump}
 use Rattle.gp_semiring.specs.declared.rules.Rule.{Rule}
-use Rattle.gp_semiring.specs.Witnesses.{sets_text}
 use Rattle.gp_semiring.specs.Values.{token_value}
 use Rattle.gp_history.specs.ValueAnswers.{all_elements, history_refusal, limited, row_values}
 use Rattle.gp_history.specs.Agreement.{agree, occurrence}
@@ -34,7 +32,6 @@ use Rattle.gp_ask.specs.declared.answered.Answered.{Answered}
 use Rattle.gp_ask.specs.declared.answered.Answered.TheVariants.{Rows, Listed, Program}
 use Rattle.gp_ask.specs.Remaining.{has_left_out, remaining_answer}
 use Rattle.gp_ask.specs.Values.{Semiring, or_refused, outside_refusal, rule_of, semiring_of, semiring_with, unless_refused, with_values}
-use Rattle.gp_ask.specs.Witnesses.{minimal_of}
 
 -- the row versions of a table of a dump
 abbrev pub table_spans : List (List Span) → ℕ → List Span
@@ -78,9 +75,8 @@ abbrev pub values_in : Semiring → List Rule × Option ℕ → Result (List (El
 values_in (semiring_with zero one plus times number itself text) rules elements =
     with_values text (limited parameters.answer (row_values plus zero one times (token_value one number itself rules)) elements)
 
--- values by rules; those in witnesses without rules are the minimal witnesses
+-- values by rules
 abbrev pub valued_answer : SemiringName → List y.Rule → Option ℕ → Result (List (Element Monomial)) Refusal → Answered
-valued_answer named.Witness [] None elements = with_values sets_text (limited parameters.answer minimal_of elements)
 valued_answer name rules other elements =
     unless_refused (outside_refusal name (map rule_of rules) other) (values_in (semiring_of name) (map rule_of rules, other) elements)
 

@@ -4,6 +4,7 @@ use Rattle.std.specs.List.{flat_map, list_any}
 use Rattle.std.specs.Option.{is_some, option_and_then, option_map_or}
 use Rattle.gp_base.specs.declared.cell.Cell.{Cell}
 use Rattle.gp_base.specs.Identities.{Identity, same_identity}
+use Rattle.gp_algebra.specs.Effects.{Written}
 use Rattle.gp_algebra.specs.Statements.{Statement, target}
 use Rattle.gp_dump.specs.Dumps.{Dump}
 use Rattle.gp_log.specs.LogFacts.{tables_in}
@@ -16,10 +17,14 @@ use Rattle.gp_ask.specs.declared.answered.Answered.{Answered}
 use Rattle.gp_ask.specs.Asking.{table_spans}
 use Rattle.gp_ask.specs.Keyed.{identity_of}
 use Rattle.gp_ask.specs.Looked.{is_written_by, rows_of}
-use Rattle.gp_ask.specs.RowConflicts.{conflict_text, dump_conflicts}
+use Rattle.gp_ask.specs.RowConflicts.{conflict_text, dump_conflicts, spans_wrote}
 use Rattle.gp_ask.specs.RowLines.{RowLine, row_line}
 use Rattle.gp_ask.specs.Seeing.{unknown_refusal}
 use Rattle.gp_ask.specs.Values.{unless_refused}
+
+-- a row version of a dump begins or ends with the version
+abbrev pub dump_wrote : Dump → ℕ → Written → Bool
+dump_wrote dump version pair = spans_wrote (table_spans dump.tables pair.table) pair.identity version
 
 abbrev pub conflicts_to : Dump → ℕ → Answered
 conflicts_to dump t = unless_refused (unknown_refusal t dump.entries) (dump_conflicts dump t)

@@ -1,7 +1,8 @@
 -- Part of the statement: the difference of two bags of rows, each a list in row order: a row as often as it is more often in the one than in the other, with a
--- sign. The law `deltas_are_differences` says what that gives.
-use Rattle.std.specs.Prelude.{ℕ, Bool, true, false, List, [], ◌∷◌, length, filter, map, not, codes}
+-- sign.
+use Rattle.std.specs.Prelude.{Bool, true, false, List, [], ◌∷◌, ◌++◌, Contains, filter, map, not, codes}
 use Rattle.std.specs.FinMap.Entries.{by_order}
+use Rattle.std.specs.List.Sorted.{IsPermutation, IsSorted}
 use Rattle.gp_base.specs.declared.cell.Cell.{Cell}
 use Rattle.gp_base.specs.declared.cell.Cell.TheVariants as cell
 use Rattle.gp_base.specs.Order.{row_cmp}
@@ -31,9 +32,21 @@ abbrev pub with_sign : Signed → List Cell
 with_sign (removed row) = cell.Text (codes "-") ∷ row
 with_sign (added row) = cell.Text (codes "+") ∷ row
 
--- how many lines have a minus, and how many a plus
-abbrev pub removed_in : List Signed → ℕ
-removed_in lines = length (filter is_removed lines)
+-- ---- what it says
 
-abbrev pub added_in : List Signed → ℕ
-added_in lines = length (filter (λ (line : Signed). not (is_removed line)) lines)
+abbrev pub signed_row : Signed → List Cell
+signed_row (removed row) = row
+signed_row (added row) = row
+
+-- the rows with a minus, and those with a plus
+abbrev pub removed_rows : List Signed → List (List Cell)
+removed_rows lines = map signed_row (filter is_removed lines)
+
+abbrev pub added_rows : List Signed → List (List Cell)
+added_rows lines = map signed_row (filter (λ (line : Signed). not (is_removed line)) lines)
+
+-- The first bag without the rows that have a minus, and with those that have a plus, is the second; no row has both signs; and the lines are in row order.
+pub record IsDifference (rows others : List (List Cell)) (lines : List Signed) : Type 0 where
+  pub bags : IsPermutation (rows ++ added_rows lines) (others ++ removed_rows lines)
+  pub signs : (row : List Cell) → Contains (removed_rows lines) row → Contains (added_rows lines) row → ⊥
+  pub order : IsSorted row_cmp (map signed_row lines)

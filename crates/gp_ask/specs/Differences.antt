@@ -16,7 +16,7 @@ use Rattle.gp_machine.specs.Entries.{Entry, Ran, statement_count, version_of}
 use Rattle.gp_ask.specs.declared.answered.Answered.{Answered}
 use Rattle.gp_ask.specs.declared.answered.Answered.TheVariants.{Diff, Lines, Refused, Rows}
 use Rattle.gp_ask.specs.declared.answered.Heading.TheVariants.{Causes}
-use Rattle.gp_ask.specs.Deltas.{Signed, added_in, delta, removed_in, with_sign}
+use Rattle.gp_ask.specs.Deltas.{Signed, added_rows, delta, removed_rows, with_sign}
 use Rattle.gp_ask.specs.Hypothetical.{asking_refusal}
 use Rattle.gp_ask.specs.Values.{or_refused, unless_refused}
 use Rattle.gp_whatif.specs.Changed.{changed_log}
@@ -50,7 +50,7 @@ statement_text statement = concat (decimal statement.0 ∷ codes "." ∷ decimal
 abbrev pub cause_lines : ℕ × ℕ → List Signed → List (List ℕ)
 cause_lines statement [] = []
 cause_lines statement (line ∷ lines) =
-    concat (statement_text statement ∷ codes " -" ∷ decimal (removed_in (line ∷ lines)) ∷ codes " +" ∷ decimal (added_in (line ∷ lines)) ∷ []) ∷ []
+    concat (statement_text statement ∷ codes " -" ∷ decimal (length (removed_rows (line ∷ lines))) ∷ codes " +" ∷ decimal (length (added_rows (line ∷ lines))) ∷ []) ∷ []
 
 -- given the answer, and the one without the statement, or what the question would be refused for
 abbrev pub cause_of : List (List Cell) → ℕ × ℕ → Result (List (List Cell)) Refusal → List (List ℕ)

@@ -3,7 +3,9 @@ use Rattle.std.specs.Prelude.{◌≡◌, ◌<◌, ◌≤◌, ℕ, zero, suc, ◌
 use Rattle.std.specs.List.{flat_map, list_all}
 use Rattle.std.specs.Option.{option_map_or}
 use Rattle.gp_base.specs.declared.cell.Cell.{Cell}
+use Rattle.gp_base.specs.declared.refusal.Refusal.{Refusal}
 use Rattle.gp_base.specs.declared.refusal.Refusal.TheVariants.{E04}
+use Rattle.gp_base.specs.Annotated.{unannotated}
 use Rattle.gp_base.specs.Catalogs.{place_of}
 use Rattle.gp_base.specs.Identities.{Identity, same_identity}
 use Rattle.gp_expr.specs.ExpressionForms.{cond_is_simple}
@@ -14,17 +16,37 @@ use Rattle.gp_check.specs.Checking.{checked_query}
 use Rattle.gp_compose.specs.Seen.{is_changed_by}
 use Rattle.gp_dump.specs.Dumps.{Dump}
 use Rattle.gp_log.specs.LogFacts.{tables_in}
-use Rattle.gp_machine.specs.Entries.{Entry, committer_of, statement_at, statement_count}
+use Rattle.gp_log.specs.Parameters.{parameters}
+use Rattle.gp_machine.specs.Entries.{Entry, committer_of, statement_at, statement_count, versions_in}
 use Rattle.gp_reenact.specs.LookingForms.{system_row}
+use Rattle.gp_serial.specs.Serializing.{runs_refusal}
 use Rattle.gp_versions.specs.declared.span.Span.{Span}
 use Rattle.gp_ask.specs.declared.answered.Answered.{Answered}
 use Rattle.gp_ask.specs.declared.answered.Answered.TheVariants.{Refused}
-use Rattle.gp_ask.specs.ChangeForms.{after_of, before_of}
+use Rattle.gp_ask.specs.Asking.{table_spans}
+use Rattle.gp_ask.specs.ChangeForms.{after_of, before_of, run_starts}
+use Rattle.gp_ask.specs.Changes.{Change}
 use Rattle.gp_ask.specs.Keyed.{cells_of, identity_of}
 use Rattle.gp_ask.specs.Looked.{rows_of}
-use Rattle.gp_ask.specs.RowHistories.{all_of, dump_history, history_text}
+use Rattle.gp_ask.specs.RowHistories.{all_of, asked_in, changed_in, history_text, row_history}
 use Rattle.gp_ask.specs.RowLines.{RowLine, few, keyed_from, row_line}
-use Rattle.gp_ask.specs.Values.{or_refused}
+use Rattle.gp_ask.specs.Values.{or_refused, unless_refused}
+
+-- ---- of a dump
+
+abbrev pub dump_asked : Dump → ℕ → Select → Identity → Bool
+dump_asked dump table select = asked_in (table_spans dump.tables table) select
+
+abbrev pub dump_changed : Dump → ℕ → ℕ → ℕ → List Change
+dump_changed dump = changed_in unannotated dump.entries dump.tables (run_starts dump)
+
+-- the first stop of the transactions that made the first versions, this many
+abbrev pub stop_upto : Dump → ℕ → Option Refusal
+stop_upto dump version = runs_refusal parameters dump.entries (table_spans dump.tables) version
+
+abbrev pub dump_history : Dump → ℕ → Select → Answered
+dump_history dump table select =
+    unless_refused (stop_upto dump (versions_in dump.entries)) (row_history unannotated dump.entries dump.tables (run_starts dump) table select)
 
 abbrev pub history_to : Dump → y.Bytes → Option y.Term → Answered
 history_to dump name cond =

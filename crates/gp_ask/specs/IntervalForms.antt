@@ -1,9 +1,9 @@
 -- Machinery: intervals, as the code makes them: one pass over the sorted answers of two versions carries those that go on, and ends the others.
-use Rattle.std.specs.Prelude.{◌≡◌, ℕ, zero, suc, ◌-◌, ◌≤◌, ◌==◌, ◌&&◌, ◌||◌, nat_le, pos, Bool, List, [], ◌∷◌, ◌++◌, codes, map, Option, Some, None, Result, Ok, Err}
+use Rattle.std.specs.Prelude.{◌≡◌, ℕ, zero, suc, ◌-◌, ◌≤◌, ◌==◌, ◌&&◌, ◌||◌, pos, Bool, List, [], ◌∷◌, ◌++◌, codes, map, Option, Some, None, Result, Ok, Err}
 use Rattle.std.specs.FinMap.Entries.{by_order}
 use Rattle.std.specs.List.{list_any, zip}
 use Rattle.std.specs.Fmt.{decimal}
-use Rattle.std.specs.Option.{option_map, option_map_or, option_or}
+use Rattle.std.specs.Option.{option_map_or, option_or}
 use Rattle.std.specs.Result.{result_err, result_unwrap_or}
 use Rattle.gp_base.specs.declared.cell.Cell.{Cell}
 use Rattle.gp_base.specs.declared.cell.Cell.TheVariants as cell
@@ -16,13 +16,12 @@ use Rattle.gp_machine.specs.Entries.{versions_in}
 use Rattle.gp_base.specs.declared.stop.Stop.{Stop}
 use Rattle.gp_base.specs.declared.stop.Stop.TheVariants as stop
 use Rattle.gp_versions.specs.declared.span.Span.{Span}
-use Rattle.gp_versions.specs.Spans.{is_before_end}
 use Rattle.gp_ask.specs.declared.answered.Answered.{Answered}
 use Rattle.gp_ask.specs.declared.answered.Answered.TheVariants.{Refused}
 use Rattle.gp_ask.specs.declared.answered.Heading.TheVariants.{When}
 use Rattle.gp_ask.specs.Asking.{table_spans}
 use Rattle.gp_ask.specs.AskingForms.{dump_rows}
-use Rattle.gp_ask.specs.Changes.{ends_at}
+use Rattle.gp_ask.specs.ChangeForms.{ends_at}
 use Rattle.gp_ask.specs.Intervals.{Interval, interval_lines, interval_text, intervals, when_answer}
 use Rattle.gp_ask.specs.Differences.{rows_in}
 use Rattle.gp_ask.specs.Printed.{query_to}
@@ -31,10 +30,6 @@ use Rattle.gp_ask.specs.Values.{unless_refused}
 
 abbrev pub when_to : Dump → y.Query → Answered
 when_to dump query = when_answer (query_to dump) dump.entries query
-
--- Of the law `intervals_agree_with_versions`: an interval that has the version.
-abbrev pub has_version : ℕ → Interval → Bool
-has_version version interval = nat_le interval.from version && is_before_end version interval.to
 
 -- ---- versions that wrote a table of the query
 

@@ -1,6 +1,6 @@
 -- Part of the statement: in which versions a row is in the answer of a query, by the answers over the versions. What holds of these, from a dump and as the history
 -- held them, holds of it. A row that an answer has several times is counted: there is an interval for each number of times.
-use Rattle.std.specs.Prelude.{ℕ, zero, suc, ◌∷◌, ◌++◌, nat_le, nat_lt, List, [], codes, filter, length, map, Option, Some, None, Result, if◌then◌else◌}
+use Rattle.std.specs.Prelude.{ℕ, zero, suc, ◌∷◌, ◌++◌, ◌&&◌, nat_le, nat_lt, Bool, List, [], codes, filter, length, map, Option, Some, None, Result, if◌then◌else◌}
 use Rattle.std.specs.Fmt.{decimal}
 use Rattle.std.specs.List.{concat}
 use Rattle.std.specs.Option.{option_map_or, option_or}
@@ -16,6 +16,7 @@ use Rattle.gp_base.specs.Texts.{row_text}
 use Rattle.gp_grammar.specs.Syntax as y
 use Rattle.gp_log.specs.Parameters.{parameters}
 use Rattle.gp_machine.specs.Entries.{Entry, versions_in}
+use Rattle.gp_versions.specs.Spans.{is_before_end}
 use Rattle.gp_ask.specs.declared.answered.Answered.{Answered}
 use Rattle.gp_ask.specs.declared.answered.Answered.TheVariants.{Lines, Refused}
 use Rattle.gp_ask.specs.declared.answered.Heading.TheVariants.{When}
@@ -27,6 +28,9 @@ pub record Interval : Type 0 where
   pub row : List Cell
   pub from : ℕ
   pub to : Option ℕ
+
+abbrev pub has_version : ℕ → Interval → Bool
+has_version version interval = nat_le interval.from version && is_before_end version interval.to
 
 -- ---- the intervals
 

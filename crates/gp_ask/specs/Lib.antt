@@ -49,6 +49,5 @@ pub mod Titles
 pub mod Transactions
 pub mod ValueForms
 pub mod Values
-pub mod Witnesses
 pub mod Writes
 pub mod DeltaForms

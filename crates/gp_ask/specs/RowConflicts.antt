@@ -1,6 +1,6 @@
 -- Part of the statement: the rows on which a transaction met another one: from a dump alone, and as the history held it. The transaction wrote such a row, and a
 -- commit wrote it too, after the base of the row, and before the transaction ended. Each is a line with its base, and the first such commit.
-use Rattle.std.specs.Prelude.{ℕ, zero, suc, ◌-◌, ◌==◌, ◌&&◌, ◌||◌, not, Bool, List, [], ◌∷◌, ◌++◌, codes, filter, map, Option, Some, None, if◌then◌else◌}
+use Rattle.std.specs.Prelude.{ℕ, zero, suc, ◌-◌, ◌==◌, ◌&&◌, ◌||◌, not, Bool, false, List, [], ◌∷◌, ◌++◌, codes, filter, map, Option, Some, None, if◌then◌else◌}
 use Rattle.std.specs.Fmt.{decimal}
 use Rattle.std.specs.List.{concat, flat_map, list_any}
 use Rattle.std.specs.Option.{option_map_or}
@@ -32,7 +32,6 @@ use Rattle.gp_ask.specs.declared.answered.Answered.{Answered}
 use Rattle.gp_ask.specs.declared.answered.Answered.TheVariants.{Lines}
 use Rattle.gp_ask.specs.declared.answered.Heading.TheVariants.{Conflicts}
 use Rattle.gp_ask.specs.Asking.{table_spans}
-use Rattle.gp_ask.specs.Changes.{ends_at}
 use Rattle.gp_ask.specs.Values.{unless_refused}
 
 -- how many commits came before the end of a transaction; where it has not ended, all of them
@@ -81,16 +80,13 @@ firsts (row ∷ others) = row ∷ filter (λ other. not (is_eq (based_cmp row ot
 
 -- a row version begins or ends with the version
 abbrev pub spans_wrote : List Span → Identity → ℕ → Bool
-spans_wrote spans id version = list_any (λ (span : Span). same_identity span.id id && ((span.from == version) || ends_at version span)) spans
-
-abbrev pub dump_wrote : Dump → ℕ → Written → Bool
-dump_wrote dump version pair = spans_wrote (table_spans dump.tables pair.table) pair.identity version
+spans_wrote spans id version = list_any (λ (span : Span). same_identity span.id id && ((span.from == version) || option_map_or (λ to. to == version) span.to false)) spans
 
 abbrev pub dump_conflicts : Dump → ℕ → Answered
 dump_conflicts dump t =
     let count = statement_count t dump.entries in
     unless_refused (own_stop unannotated parameters dump.entries (y.after t count) (as_of unannotated (table_spans dump.tables)))
-    (conflicts_of dump.entries (tables_in dump.entries) (dump_wrote dump) t (firsts (dump_written dump t count)))
+    (conflicts_of dump.entries (tables_in dump.entries) (λ version pair. spans_wrote (table_spans dump.tables pair.table) pair.identity version) t (firsts (dump_written dump t count)))
 
 -- ---- as a history held it
 

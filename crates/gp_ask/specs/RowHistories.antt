@@ -1,36 +1,25 @@
--- Part of the statement: what became of the rows of a table on which a condition was true in some version: from a dump alone, and as the history held it. Each
--- change of such a row by a statement of a transaction that committed is a line: by identity, and of each identity in the order of versions and statements.
-use Rattle.std.specs.Prelude.{ℕ, zero, suc, ◌-◌, ◌==◌, ◌&&◌, ◌||◌, nat_lt, Bool, true, false, List, [], ◌∷◌, ◌++◌, codes, filter, length, map, Option, None, if◌then◌else◌}
+-- Part of the statement: what became of the rows of a table on which a condition was true in some version. Each change of such a row by a statement of a transaction
+-- that committed is a line: by identity, and of each identity in the order of versions and statements.
+use Rattle.std.specs.Prelude.{ℕ, zero, suc, ◌-◌, ◌==◌, ◌&&◌, nat_lt, Bool, true, false, List, [], ◌∷◌, ◌++◌, codes, filter, length, map, Option, if◌then◌else◌}
 use Rattle.std.specs.Fmt.{decimal}
 use Rattle.std.specs.List.{concat, list_all, list_any}
-use Rattle.std.specs.Option.{option_map_or, option_or}
+use Rattle.std.specs.Option.{option_map_or}
 use Rattle.gp_base.specs.declared.cell.Cell.{Cell}
-use Rattle.gp_base.specs.declared.refusal.Refusal.{Refusal}
 use Rattle.gp_base.specs.declared.refusal.Refusal.TheVariants.{E27}
-use Rattle.gp_base.specs.Annotated.{Annotated, monomials, unannotated}
+use Rattle.gp_base.specs.Annotated.{Annotations, Database}
 use Rattle.gp_base.specs.Identities.{Identity, identity_cmp, identity_text, same_identity}
 use Rattle.gp_base.specs.Order.{sorted_by}
-use Rattle.gp_base.specs.Tokens.{Monomial}
 use Rattle.gp_grammar.specs.Syntax as y
 use Rattle.gp_expr.specs.Values.{passes}
-use Rattle.gp_algebra.specs.Effects.{Written}
 use Rattle.gp_algebra.specs.Statements.{Branch, Select, Statement, target}
-use Rattle.gp_dump.specs.Dumps.{Dump}
 use Rattle.gp_log.specs.Parameters.{parameters}
-use Rattle.gp_machine.specs.Entries.{Entry, committer_of, log_of, statement_at, statement_count, versions_in}
-use Rattle.gp_machine.specs.HistorySpans.{as_of}
-use Rattle.gp_machine.specs.Questions.{own_stop}
-use Rattle.gp_machine.specs.ReadBy.{start_by}
-use Rattle.gp_machine.specs.Reading.{wrote_by}
-use Rattle.gp_machine.specs.Runs.{run_before}
-use Rattle.gp_machine.specs.State.{State}
+use Rattle.gp_machine.specs.Entries.{Entry, committer_of, statement_at, statement_count, versions_in}
 use Rattle.gp_versions.specs.declared.span.Span.{Span}
 use Rattle.gp_ask.specs.declared.answered.Answered.{Answered}
 use Rattle.gp_ask.specs.declared.answered.Answered.TheVariants.{Lines, Refused}
 use Rattle.gp_ask.specs.declared.answered.Heading.TheVariants.{History}
 use Rattle.gp_ask.specs.Asking.{table_spans}
-use Rattle.gp_ask.specs.Changes.{Change, cells_in, changed_by, side_text}
-use Rattle.gp_ask.specs.Values.{unless_refused}
+use Rattle.gp_ask.specs.Changes.{Change, changed_by, side_text}
 
 -- SELECT * FROM the table WHERE the condition: the table and the condition are checked as those of this query
 abbrev pub all_of : y.Bytes → Option y.Term → y.Query
@@ -65,50 +54,19 @@ module _ (entries : List Entry) (is_asked : Identity → Bool) (changes : ℕ �
       if nat_lt parameters.answer (length lines) then Refused E27
       else Lines History (map (λ (line : Identity × List ℕ). line.1) (sorted_by (λ (line other : Identity × List ℕ). identity_cmp line.0 other.0) lines))
 
--- ---- from a dump
-
 -- the row of some row version of the identity
-abbrev pub dump_asked : Dump → ℕ → Select → Identity → Bool
-dump_asked dump table select id = list_any (λ (span : Span). same_identity span.id id && meets select span.row) (table_spans dump.tables table)
+abbrev pub asked_in : List Span → Select → Identity → Bool
+asked_in spans select id = list_any (λ (span : Span). same_identity span.id id && meets select span.row) spans
 
--- what a statement gives over the stored versions, if it writes the table
-abbrev pub dump_changed : Dump → ℕ → ℕ → ℕ → List Change
-dump_changed dump table t k =
-    option_map_or
-    (λ (statement : Statement).
-    if option_map_or (λ (place : ℕ). place == table) (target statement) false
-    then changed_by t k statement (run_before unannotated (log_of dump.entries) t (k - 1) (as_of unannotated (table_spans dump.tables))) else [])
-    (statement_at t k dump.entries) []
+-- Of a log and the row versions of its tables: given what a transaction read before its statement k + 1.
+module _ {M : Type 0} (domain : Annotations M) (entries : List Entry) (spans : List (List Span)) (before : ℕ → ℕ → Database M) where
+  -- what a statement changed, if it writes the table
+  abbrev pub changed_in : ℕ → ℕ → ℕ → List Change
+  changed_in table t k =
+      option_map_or
+      (λ (statement : Statement).
+      if option_map_or (λ (place : ℕ). place == table) (target statement) false then changed_by domain t k statement (before t (k - 1)) else [])
+      (statement_at t k entries) []
 
--- the first stop of the transactions that made the first versions, this many
-abbrev pub stop_upto : Dump → ℕ → Option Refusal
-stop_upto dump zero = None
-stop_upto dump (suc version) =
-    option_or (stop_upto dump version) (own_stop unannotated parameters dump.entries (y.Point.commit (committer_of (suc version) dump.entries)) (as_of unannotated (table_spans dump.tables)))
-
-abbrev pub dump_history : Dump → ℕ → Select → Answered
-dump_history dump table select =
-    unless_refused (stop_upto dump (versions_in dump.entries)) (history_of dump.entries (dump_asked dump table select) (dump_changed dump table))
-
--- ---- as a history held it
-
--- some version up to this one passes
-abbrev pub any_upto : (ℕ → Bool) → ℕ → Bool
-any_upto test zero = test zero
-any_upto test (suc version) = any_upto test version || test (suc version)
-
--- the row of some version with the identity
-abbrev pub history_asked : State Monomial → ℕ → Select → Identity → Bool
-history_asked state table select id =
-    any_upto (λ version. list_any (λ (row : Annotated Monomial). same_identity row.identity id && meets select row.cells) (state.committed version table)) (versions_in state.entries)
-
--- the rows of the table that a statement wrote: from what its transaction read before it to what it read after it
-abbrev pub history_changed : State Monomial → ℕ → ℕ → ℕ → List Change
-history_changed state table t k =
-    let before = start_by monomials (log_of state.entries) t (k - 1) state.committed in
-    map (λ (pair : Written). (pair.identity, (cells_in pair.identity (before table), cells_in pair.identity (state.views t k table))))
-    (filter (λ (pair : Written). pair.table == table) (wrote_by monomials t k (statement_at t k state.entries) before))
-
--- no transaction of a history stops
-abbrev pub held_history : State Monomial → ℕ → Select → Answered
-held_history state table select = history_of state.entries (history_asked state table select) (history_changed state table)
+  abbrev pub row_history : ℕ → Select → Answered
+  row_history table select = history_of entries (asked_in (table_spans spans table) select) (changed_in table)

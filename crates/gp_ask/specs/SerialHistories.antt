@@ -1,21 +1,19 @@
 -- Part of the statement: what the answers to SERIAL say of a history. An order is one of a history in which its transactions run one after another, each statement with
--- the same changes, each query with the same rows, and with the same last version. Each line of a cycle is true of the history.
-use Rattle.std.specs.List.Sorted.{IsPermutation}
-use Rattle.std.specs.Prelude.{◌≡◌, ◌≢◌, ℕ, suc, ◌-◌, ◌<◌, ◌≤◌, Contains, true, List, [], ◌∷◌, map, Option, Some}
+-- the same changes, each query with the same rows, and with the same last version. Each line of a cycle is true of the history, of transactions that committed.
+use Rattle.std.specs.Prelude.{◌≡◌, ◌≢◌, ℕ, ◌-◌, ◌<◌, ◌≤◌, true, List, [], ◌∷◌, map, is_some, Option, Some, None, if◌then◌else◌}
 use Rattle.std.specs.Fmt.{decimal}
 use Rattle.std.specs.List.{list_any}
 use Rattle.std.specs.Option.{option_map_or}
-use Rattle.gp_base.specs.Annotated.{unannotated}
-use Rattle.gp_algebra.specs.Statements.{Statement}
-use Rattle.gp_machine.specs.Entries.{committer_of, log_of, statement_at, statement_count, statement_version}
+use Rattle.gp_base.specs.declared.cell.Cell.{Cell}
+use Rattle.gp_base.specs.Annotated.{Annotated}
+use Rattle.gp_base.specs.Identities.{Identity, same_identity}
+use Rattle.gp_machine.specs.Committed.{is_written}
+use Rattle.gp_machine.specs.Entries.{committer_of, statement_at, statement_version, version_of}
 use Rattle.gp_machine.specs.Looks.{looks}
 use Rattle.gp_machine.specs.Precedence.{Reason, ReadAfter, ReadBefore, Wrote, meets}
-use Rattle.gp_machine.specs.ReadBy.{start_by}
 use Rattle.gp_machine.specs.RowChanges.{RowChange}
-use Rattle.gp_machine.specs.SerialForms.{IsSerialAs, made_by}
-use Rattle.gp_machine.specs.SerialRuns.{serial_log}
+use Rattle.gp_machine.specs.SerialForms.{IsSerialAs}
 use Rattle.gp_machine.specs.State.{State}
-use Rattle.gp_ask.specs.Changes.{cells_in, changed_by}
 use Rattle.gp_ask.specs.SerialAnswers.{step_text}
 
 -- ---- an order
@@ -25,19 +23,26 @@ pub record RunsSerially (state : State (Unit {0})) (lines : List (List ℕ)) : T
   pub order : List ℕ
   pub numbers : lines ≡ map decimal order
   pub serial : IsSerialAs state order
-  pub changes : (t k : ℕ) (statement : Statement) → Contains order t → k < statement_count t state.entries → statement_at t (suc k) state.entries ≡ Some statement
-      → IsPermutation (changed_by t (suc k) statement (start_by unannotated (log_of state.entries) t k state.committed))
-      (changed_by t (suc k) statement (start_by unannotated (serial_log order (log_of state.entries)) t k (made_by state order).committed))
 
 -- ---- a cycle
+
+-- the cells of the row of an identity, if there is one
+abbrev pub cells_in : {M : Type 0} → Identity → List (Annotated M) → Option (List Cell)
+cells_in id [] = None
+cells_in id (row ∷ rows) = if same_identity row.identity id then Some row.cells else cells_in id rows
 
 module _ (state : State (Unit {0})) where
   -- a row that the commit of a transaction wrote, with its cells in the version before and in its own
   pub record IsChangeBy (t : ℕ) (change : RowChange) : Type 0 where
     pub maker : committer_of change.version state.entries ≡ t
     pub first : 0 < change.version
+    pub written : is_written change.row.table change.row.identity (state.written change.version) ≡ true
     pub before : cells_in change.row.identity (state.committed (change.version - 1) change.row.table) ≡ change.before
     pub after : cells_in change.row.identity (state.committed change.version change.row.table) ≡ change.after
+
+  -- the commit of the version that it names made it
+  abbrev pub IsTrue : RowChange → Type 0
+  IsTrue change = 0 < committer_of change.version state.entries → IsChangeBy (committer_of change.version state.entries) change
 
   -- statement k of a transaction looks at it
   abbrev pub LooksAt : ℕ → ℕ → RowChange → Type 0
@@ -51,6 +56,7 @@ module _ (state : State (Unit {0})) where
   -- a line that says why a transaction comes before another one
   pub record IsStep (earlier later : ℕ) (line : List ℕ) : Type 0 where
     pub two : earlier ≢ later
+    pub committed : is_some (version_of earlier state.entries) ≡ true
     pub reason : Reason
     pub is : IsReason earlier later reason
     pub text : line ≡ step_text state.catalogue state.entries (record { first = earlier; next = later; reason = Some reason })

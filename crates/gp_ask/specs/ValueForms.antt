@@ -10,18 +10,11 @@ use Rattle.gp_history.specs.ValueAnswers.{limited, row_values}
 use Rattle.gp_log.specs.Parameters.{parameters}
 use Rattle.gp_machine.specs.State.{State}
 use Rattle.gp_dump.specs.Dumps.{Dump}
-use Rattle.gp_semiring.specs.Witnesses.{sets_text}
 use Rattle.gp_semiring.specs.declared.rules.Rule.{Rule}
 use Rattle.gp_ask.specs.declared.answered.Answered.{Answered}
 use Rattle.gp_ask.specs.Asking.{valued_answer}
 use Rattle.gp_ask.specs.AskingForms.{dump_elements, held_elements}
 use Rattle.gp_ask.specs.Operations.{Operations, evaluated, value_of}
-use Rattle.gp_ask.specs.Values.{with_values}
-use Rattle.gp_ask.specs.Witnesses.{minimal_of}
-
--- the minimal witnesses of the rows
-abbrev pub minimal_answer : Result (List (Element Monomial)) Refusal → Answered
-minimal_answer elements = with_values sets_text (limited parameters.answer minimal_of elements)
 
 -- their values in a semiring
 abbrev pub values_answer : Operations → SemiringName → List Rule × Option ℕ → Result (List (Element Monomial)) Refusal → Answered
@@ -31,17 +24,11 @@ values_answer semiring name rules elements =
 abbrev pub dump_values : Operations → SemiringName → List Rule × Option ℕ → Dump → y.Point → Select → Answered
 dump_values semiring name rules dump point select = values_answer semiring name rules (dump_elements dump point select)
 
-abbrev pub dump_minimal : Dump → y.Point → Select → Answered
-dump_minimal dump point select = minimal_answer (dump_elements dump point select)
-
 abbrev pub dump_valued : SemiringName → List y.Rule → Option ℕ → Dump → y.Point → Select → Answered
 dump_valued name rules other dump point select = valued_answer name rules other (dump_elements dump point select)
 
 abbrev pub held_values : Operations → SemiringName → List Rule × Option ℕ → State Monomial → y.Point → Select → Answered
 held_values semiring name rules state point select = values_answer semiring name rules (held_elements state point select)
-
-abbrev pub held_minimal : State Monomial → y.Point → Select → Answered
-held_minimal state point select = minimal_answer (held_elements state point select)
 
 abbrev pub held_valued : SemiringName → List y.Rule → Option ℕ → State Monomial → y.Point → Select → Answered
 held_valued name rules other state point select = valued_answer name rules other (held_elements state point select)

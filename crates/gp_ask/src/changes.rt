@@ -349,7 +349,7 @@ pub fn changes_answer(alloc: Global, dump: &Dump, t: u64, k: u64) -> Result<Answ
 
 /// Whether a span ends at a version.
 pub(crate) fn ends_at(span: &Span, version: u32) -> bool
-    ensures { result ≡ s.ends_at version span.now }
+    ensures { result ≡ f.ends_at version span.now }
 {
     match span.to {
         Some(to) => to == version,
@@ -366,7 +366,7 @@ pub(crate) fn is_same_id(id: &RowId, other: &RowId) -> bool
 
 /// Whether a span goes on in another one at a version.
 fn goes_on(span: &Span, next: Option<&Span>, version: u32) -> bool
-    ensures { result ≡ s.goes_on version span.now (option_map (λ other. other.now) next.entry) }
+    ensures { result ≡ f.goes_on version span.now (option_map (λ other. other.now) next.entry) }
 {
     match next {
         Some(next) => next.from == version && is_same_id(&next.id, &span.id),
@@ -377,7 +377,7 @@ fn goes_on(span: &Span, next: Option<&Span>, version: u32) -> bool
 /// The row before a span that begins at a version, by the span before it.
 fn row_before<'a>(last: Option<&'a Span>, span: &Span, version: u32) -> Option<&'a Row>
     ensures { option_map (λ row. row.now) result
-        ≡ s.row_before version (option_map (λ other. other.now) last.entry) span.now }
+        ≡ f.row_before version (option_map (λ other. other.now) last.entry) span.now }
 {
     match last {
         Some(last) => {
@@ -402,7 +402,7 @@ fn push_span(
     lines: &mut Sequence<Text>,
 ) -> Result<(), NoMemory>
     ensures { OnOk result (lines.new ≡ lines.old
-        ++ s.span_texts name.now version (option_map (λ other. other.now) last.entry) span.now
+        ++ f.span_texts name.now version (option_map (λ other. other.now) last.entry) span.now
         (option_map (λ other. other.now) next.entry)) }
 {
     if span.from == version {
@@ -424,7 +424,7 @@ fn push_table(
     lines: &mut Sequence<Text>,
 ) -> Result<(), NoMemory>
     ensures { OnOk result (lines.new
-        ≡ lines.old ++ s.spans_texts name.now version None spans.now) }
+        ≡ lines.old ++ f.spans_texts name.now version None spans.now) }
 {
     let mut last = None;
     for (i, span) in spans.iter().enumerate() {

@@ -2,7 +2,8 @@
 
 ghost use Rattle.std.specs.Prelude.{◌≡◌, ◌++◌, ◌∷◌, map, IfOk, OnOk};
 ghost use Rattle.gp_base.specs.declared.cell.Cell.TheVariants as cell;
-ghost use Rattle.gp_ask.specs.Deltas.{added_in, delta, removed_in, with_sign};
+ghost use Rattle.gp_ask.specs.DeltaForms.{added_in, removed_in};
+ghost use Rattle.gp_ask.specs.Deltas.{delta, with_sign};
 
 use gp_base::{Cell, NoMemory, Row, Sequence, Text};
 use std::alloc::Global;

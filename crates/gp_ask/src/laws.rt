@@ -8,22 +8,24 @@ ghost use Rattle.gp_base.specs.declared.cell.Cell.{Cell};
 ghost use Rattle.gp_base.specs.Annotated.{Annotations, Database, monomials, unannotated};
 ghost use Rattle.gp_base.specs.Order.{row_cmp, sorted_by};
 ghost use Rattle.gp_base.specs.Tokens.{Monomial};
-ghost use Rattle.gp_algebra.specs.Effects.{written_in, wrote};
+ghost use Rattle.gp_algebra.specs.Effects.{wrote};
 ghost use Rattle.gp_algebra.specs.Statements.{Select, Statement};
-ghost use Rattle.gp_compose.specs.Seen.{changed_rows, is_made_by};
+ghost use Rattle.gp_compose.specs.Seen.{is_made_by};
 ghost use Rattle.gp_grammar.specs.Reading.{question_of};
 ghost use Rattle.gp_grammar.specs.Syntax as y;
 ghost use Rattle.gp_history.specs.Agreement.{agree};
 ghost use Rattle.gp_log.specs.Parameters.{parameters};
 ghost use Rattle.gp_log.specs.LogFacts.{tables_in};
 ghost use Rattle.gp_machine.specs.Committed.{is_written};
-ghost use Rattle.gp_machine.specs.Entries.{Entry, log_of, versions_in};
+ghost use Rattle.gp_machine.specs.Entries.{Entry, log_of, statement_count, transactions_in, versions_in};
 ghost use Rattle.gp_machine.specs.Event.{Line, after, target_of};
 ghost use Rattle.gp_machine.specs.HistorySpans.{as_of, state_spans};
 ghost use Rattle.gp_machine.specs.QuestionForms.{identified};
+ghost use Rattle.gp_machine.specs.Questions.{own_stop};
 ghost use Rattle.gp_machine.specs.Replayed.{replayed_state};
 ghost use Rattle.gp_machine.specs.Replaying.{replay_stop};
 ghost use Rattle.gp_machine.specs.ReplayForms.{CommitsInOrder, replayed_spans};
+ghost use Rattle.gp_machine.specs.RowChanges.{tables_changes};
 ghost use Rattle.gp_machine.specs.State.{State, start};
 ghost use Rattle.gp_machine.specs.Unstopped.{IsUnstopped};
 ghost use Rattle.gp_dump.specs.Dumps.{Dump, dump_of};
@@ -41,14 +43,12 @@ ghost use Rattle.gp_ask.specs.Printed.{answer_to, held_to, query_to, what_if_hel
 ghost use Rattle.gp_ask.specs.Compared.{AnswersAsMade, compares_histories};
 ghost use Rattle.gp_ask.specs.Computed.{computed_answer, what_if_answer};
 ghost use Rattle.gp_ask.specs.Asking.{Programs, table_spans};
-ghost use Rattle.gp_ask.specs.Changes.{spans_texts};
-ghost use Rattle.gp_ask.specs.Deltas.{delta};
-ghost use Rattle.gp_ask.specs.DeltaForms.{added_rows, removed_rows, signed_row};
+ghost use Rattle.gp_ask.specs.Changes.{Change, changed_by, commit_texts};
+ghost use Rattle.gp_ask.specs.Deltas.{added_rows, delta, removed_rows, signed_row};
 ghost use Rattle.gp_ask.specs.Differences.{rows_in};
 ghost use Rattle.gp_ask.specs.Explained.{ExplainsLines};
 ghost use Rattle.gp_ask.specs.Hypothetical.{remaking_refusal, replayed_dump};
-ghost use Rattle.gp_ask.specs.IntervalForms.{has_version};
-ghost use Rattle.gp_ask.specs.Intervals.{intervals, refusal_upto, version_rows};
+ghost use Rattle.gp_ask.specs.Intervals.{has_version, intervals, refusal_upto, version_rows};
 ghost use Rattle.gp_ask.specs.Isolated.{IsIsolated, LosesToFirst};
 ghost use Rattle.gp_ask.specs.Made.{unmade_refusal};
 ghost use Rattle.gp_ask.specs.Answers as answers;
@@ -56,7 +56,7 @@ ghost use Rattle.gp_ask.specs.Programs.{program_lines, sql_lines};
 ghost use Rattle.gp_ask.specs.Questions.{AreQuestions, ReadQuestion, is_refused};
 ghost use Rattle.gp_ask.specs.Replays.{dump_in};
 ghost use Rattle.gp_ask.specs.SerialAnswers.{serial_answer};
-ghost use Rattle.gp_ask.specs.SerialHistories.{RunsInCycle, RunsSerially};
+ghost use Rattle.gp_ask.specs.SerialHistories.{IsTrue, RunsInCycle, RunsSerially};
 ghost use Rattle.gp_ask.specs.ShownWrites.{ShowsWrites};
 ghost use Rattle.gp_ask.specs.SqlAnswers.{AreStored, AsksLines};
 ghost use Rattle.gp_ask.specs.declared.answered.Answered.TheVariants.{Lines};
@@ -111,7 +111,7 @@ fn rules_give_the_values_of_the_history<K: Semiring>()
 /// states as the history held it, and refuses it where the history did: the rows of a past version are those that its commit
 /// published, whatever was written since, the statements of a transaction, run again over the versions that it read, give the rows
 /// that it saw, and the commits, run again one after another, give each row the provenance that it had there, though the dump has
-/// none, and so its value in each semiring, its minimal witnesses, and whether it remains without the rows of some tokens. They never
+/// none, and so its value in each semiring, and whether it remains without the rows of some tokens. They never
 /// pass a limit, and never differ from the dump.
 pub fn unstopped_histories_answer_as_their_dumps()
     ensures { (state : State Monomial) → IsUnstopped monomials parameters state
@@ -144,11 +144,9 @@ pub fn histories_answer_as_their_dumps()
 {
     unstopped_histories_answer_as_their_dumps();
     changed_histories_answer_their_questions();
-    commits_show_what_they_wrote();
     changed_logs_are_coherent();
     histories_do_not_stop::<BaseMonomial>();
     spans_hold_the_versions::<BaseMonomial>();
-    a_version_has_one_row_of_an_identity();
     commits_publish_the_spans::<BaseMonomial>();
     identities_begin_with_their_committers::<BaseMonomial>();
     agreement_is_having_the_same_rows::<()>();
@@ -188,14 +186,28 @@ pub fn histories_are_isolated()
     logs_keep_their_sessions()
 }
 
+/// No statement of a transaction of a history passes a limit where it is run again over the versions, whatever became of the transaction. So what it
+/// saw is refused for none.
+pub fn statements_of_histories_do_not_stop()
+    ensures { (lines : List Line) (t k : ℕ) → 0 < t
+        → t ≤ transactions_in (after monomials parameters start lines).entries
+        → k ≤ statement_count t (after monomials parameters start lines).entries
+        → own_stop monomials parameters (after monomials parameters start lines).entries
+        (y.after t k) (after monomials parameters start lines).committed ≡ None }
+{
+    annotations_change_no_reply::<BaseMonomial, ()>();
+    changed_logs_are_coherent()
+}
+
 /// The rows that a statement changed, by which a dump answers `CHANGES`, are those that it wrote, in their order, where none of the rows
 /// of its table was made by it before it ran. So they are in every state that lines lead to, whatever became of the transaction
 /// ([`histories_answer_as_their_dumps`]).
 pub fn changed_rows_are_those_written<M>()
     ensures { (domain : Annotations M) (t k : ℕ) (statement : Statement) (db : Database M)
         → AllByRecursion (λ row. is_made_by t k row.identity ≡ false) (db (target_of statement))
-        → written_in (target_of statement) (changed_rows domain t k statement db)
-        ≡ wrote domain t k statement db }
+        → wrote domain t k statement db ≡ map
+        (λ (change : Change). record { table = target_of statement; identity = change.0 })
+        (changed_by domain t k statement db) }
 {}
 
 /// On the dump of a history, `CHANGES` of the commit that made a version has a line for each row that the commit wrote and that the
@@ -207,7 +219,7 @@ pub fn commits_show_what_they_wrote()
         (λ id. is_written table id ((after monomials parameters start lines).written (suc version)))
         ((after monomials parameters start lines).committed version table)
         ((after monomials parameters start lines).committed (suc version) table)
-        (spans_texts name (suc version) None
+        (commit_texts name (suc version)
         (sorted_by span_cmp (state_spans (after monomials parameters start lines) table))) }
 {
     spans_hold_the_versions::<BaseMonomial>()
@@ -352,7 +364,8 @@ pub fn intervals_agree_with_versions()
 {}
 
 /// What the answer to SERIAL says of a history, by its dump: an order is that of a history in which its transactions run one after another
-/// and do what they did (`serial`), and each line of a cycle is true (`cycle`). No history is refused (`answered`).
+/// and do what they did (`serial`), and each line of a cycle is true (`cycle`), and so is each change that the row versions show (`changes`). No history is refused
+/// (`answered`).
 pub fn serial_answers_are_true()
     ensures serial { (lines : List Line) (texts : List (List ℕ))
         → serial_answer (dump_of (after unannotated parameters start lines)) ≡ Lines Serial texts
@@ -360,6 +373,9 @@ pub fn serial_answers_are_true()
     ensures cycle { (lines : List Line) (texts : List (List ℕ))
         → serial_answer (dump_of (after unannotated parameters start lines)) ≡ Lines Cycle texts
         → RunsInCycle (after unannotated parameters start lines) texts }
+    ensures changes { (lines : List Line)
+        → AllByRecursion (IsTrue (after unannotated parameters start lines))
+        (tables_changes 0 (dump_of (after unannotated parameters start lines)).tables) }
     ensures answered { (lines : List Line)
         → is_refused (serial_answer (dump_of (after unannotated parameters start lines))) ≡ false }
 {

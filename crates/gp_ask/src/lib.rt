@@ -16,7 +16,7 @@
 //! `specs/`, `Asking` and `Answers` say what the answer is, whichever programs answer explained queries (`Printed` with those that are printed, `Computed` as it is
 //! computed), `Explained` what these programs say, `Hypothetical` what the history answers that would have been, `Formats`
 //! which answers are exported as CSV and asked in SQL, `Titles` under which titles, `SqlAnswers` what a query of SQL gives, `Questions` which answers the lines of a file get (`QuestionFiles` by its bytes), and `Texts` how they are written. `Values` has
-//! the semirings and the rules of VALUE IN, `Witnesses` the minimal witnesses of rows, and `Remaining` what remains for WITHOUT. Inside,
+//! the semirings and the rules of VALUE IN, and `Remaining` what remains for WITHOUT. Inside,
 //! `logs` answers LOG, `row_versions` VERSIONS, `asking` any question about a state, by `queries` AS OF and REENACT, by `provenance`
 //! PROVENANCE OF, by `values` VALUE IN, by `deletion` WITHOUT, by `programs` EXPLAIN and by `sql` what is asked in SQL, and `hypothetical` WHATIF. `keeping` has what
 //! one question leaves to the next, of which `remembering` keeps the history with changes.
@@ -81,6 +81,6 @@ pub use laws::{
     histories_answer_with_any_programs, histories_are_isolated, intervals_agree_with_versions,
     programs_explain_their_questions, queries_ask_their_questions, read_questions_are_valid,
     replays_answer_as_their_histories, row_versions_are_stored, serial_answers_are_true,
-    unstopped_histories_answer_as_their_dumps,
+    statements_of_histories_do_not_stop, unstopped_histories_answer_as_their_dumps,
 };
 pub use valid::ValidQuestion;

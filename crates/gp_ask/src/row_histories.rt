@@ -474,7 +474,7 @@ fn history_lines(alloc: Global, dump: &Dump, rows: &Rows<'_>) -> Result<Vec<Row>
     requires narrow { spans_of rows.now.narrow.now ≡ f.narrowed (table_spans (dump_view dump.now).tables)
         rows.now.table (λ id. is_some (get identity_cmp rows.now.asked.now id)) }
     ensures { Looks (λ lines. lines.items) result
-        (given (s.stop_upto (dump_view dump.now) (m.versions_in (dump_view dump.now).entries))
+        (given (f.stop_upto (dump_view dump.now) (m.versions_in (dump_view dump.now).entries))
         (keyed_from 0 (few (f.versions_changes (dump_view dump.now) rows.now.table
         (λ id. is_some (get identity_cmp rows.now.asked.now id))
         (m.versions_in (dump_view dump.now).entries))))) }
@@ -501,7 +501,7 @@ fn selected_history(
     requires fits { select_fits (tables_in (dump_view dump.now).entries) (select_view select.now)
         ≡ true }
     ensures { IfOk result (λ answered. answered
-        ≡ s.dump_history (dump_view dump.now) table (select_view select.now)) }
+        ≡ f.dump_history (dump_view dump.now) table (select_view select.now)) }
 {
     let asked = asked_rows(alloc, select, spans_of(dump, table))?;
     let narrow = narrowed(alloc, dump.versions.as_slice(), table, &asked)?;

@@ -1,9 +1,12 @@
 -- The promises of a call by its outcome and by laws, and what follows from them.
-use Rattle.std.proofs.Common.{◌≡◌, ℕ, ◌^◌, ◌<◌, ◌≤◌, ◌⊎◌, inl, inr, true, List, [], ◌∷◌, ◌++◌, length, map, Option, Some, None, Result, Ok, Err, codes, refl, sym, ap, ◌∙◌, subst, ⊎_elim}
-use Rattle.std.specs.List.{flat_map}
+use Rattle.std.proofs.Common.{◌≡◌, ◌≢◌, ℕ, ◌^◌, ◌<◌, ◌≤◌, ◌⊎◌, inl, inr, Bool, false, true, List, [], ◌∷◌, ◌++◌, length, map, Option, Some, None, Result, Ok, Err, codes, refl, sym, ap, ◌∙◌, subst, ⊎_elim}
+use Rattle.std.specs.Prelude.{AllPairs, Contains, filter}
+use Rattle.std.specs.List.{AllByRecursion, flat_map}
+use Rattle.std.specs.List.Sorted.{IsPermutation, IsSorted}
 use Rattle.gp_base.specs.Annotated.{Annotations, monomials, unannotated}
 use Rattle.gp_base.specs.CatalogForms.{HaveDifferentNames}
 use Rattle.gp_base.specs.declared.table.Table.{Table}
+use Rattle.gp_base.specs.Order.{row_cmp}
 use Rattle.gp_base.specs.Tokens.{Monomial}
 use Rattle.gp_grammar.specs.LineReading.{Fault as ReadFault}
 use Rattle.gp_grammar.specs.Syntax as y
@@ -13,15 +16,18 @@ use Rattle.gp_io.specs.Events.{Event, Replaced, NotReplaced}
 use Rattle.gp_io.specs.Sink.{SinkState}
 use Rattle.gp_log.specs.LogFacts.{tables_in}
 use Rattle.gp_log.specs.Parameters.{parameters}
-use Rattle.gp_machine.specs.Entries.{Entry}
+use Rattle.gp_machine.specs.Entries.{Entry, statement_count, transactions_in}
 use Rattle.gp_machine.specs.Event.{Line, after, event}
+use Rattle.gp_machine.specs.Questions.{own_stop}
 use Rattle.gp_machine.specs.Replayed.{replayed_state}
+use Rattle.gp_machine.specs.RowChanges.{tables_changes}
 use Rattle.gp_machine.specs.State.{State, start}
 use Rattle.gp_plantext.specs.Spellable.{is_spellable}
 use Rattle.gp_plantext.specs.Spelling.{program_text}
 use Rattle.gp_sql.specs.Spelled.{HaveOwnNames, SpellsQuery}
 use Rattle.gp_sql.specs.Sql.{With}
 use Rattle.gp_replay.specs.Differences.{IsOfHistory, difference}
+use Rattle.gp_serial.specs.Graphs.{is_cycle, least_cycle}
 use Rattle.gp_syntax.specs.Lines.{script_lines}
 use Rattle.gp_script.specs.History.{IsScript, ReadLine, has_refusal, last_state, outcome_of, replies_text, replies_to, state_along}
 use Rattle.gp_script.specs.Scripts.{final_state, line_if_read, lines_as_read}
@@ -47,13 +53,15 @@ use Rattle.gp_ask.specs.Programs.{program_lines, programs_in, sql_lines}
 use Rattle.gp_ask.specs.SqlAnswers.{AreStored, AsksLines}
 use Rattle.gp_ask.specs.declared.answered.Answered as reply
 use Rattle.gp_ask.specs.Compared.{AnswersAsMade, compares_histories}
+use Rattle.gp_ask.specs.Deltas.{IsDifference, delta}
 use Rattle.gp_ask.specs.Explained.{ExplainsLines}
 use Rattle.gp_ask.specs.Hypothetical.{remaking_refusal, replayed_dump}
+use Rattle.gp_ask.specs.Intervals.{has_version, intervals}
 use Rattle.gp_ask.specs.Isolated.{IsIsolated, LosesToFirst}
 use Rattle.gp_whatif.specs.Changed.{changed_log}
-use Rattle.gp_ask.specs.Questions.{AreQuestions, ReadQuestion}
+use Rattle.gp_ask.specs.Questions.{AreQuestions, ReadQuestion, is_refused}
 use Rattle.gp_ask.specs.SerialAnswers.{serial_answer}
-use Rattle.gp_ask.specs.SerialHistories.{RunsInCycle, RunsSerially}
+use Rattle.gp_ask.specs.SerialHistories.{IsTrue, RunsInCycle, RunsSerially}
 use Rattle.gp_ask.specs.declared.answered.Answered.TheVariants.{Lines}
 use Rattle.gp_ask.specs.declared.answered.Heading.TheVariants.{Cycle, Serial}
 use Rattle.gprom_cli.specs.declared.load.TheConstants.{MAX_SHEET_LENGTH}
@@ -178,6 +186,16 @@ pub record DumpLaws : Type 0 where
       → RunsSerially (after unannotated parameters start lines) texts
   pub cycle : (lines : List Line) (texts : List (List ℕ)) → serial_answer (dump_of (after unannotated parameters start lines)) ≡ Lines Cycle texts
       → RunsInCycle (after unannotated parameters start lines) texts
+  pub changes : (lines : List Line) → AllByRecursion (IsTrue (after unannotated parameters start lines)) (tables_changes 0 (dump_of (after unannotated parameters start lines)).tables)
+  pub answered : (lines : List Line) → is_refused (serial_answer (dump_of (after unannotated parameters start lines))) ≡ false
+  pub unstopped : (lines : List Line) (t k : ℕ) → 0 < t → t ≤ transactions_in (after monomials parameters start lines).entries
+      → k ≤ statement_count t (after monomials parameters start lines).entries
+      → own_stop monomials parameters (after monomials parameters start lines).entries (y.after t k) (after monomials parameters start lines).committed ≡ None
+  pub versions : (answers : ℕ → List (List Cell)) → ((version : ℕ) → IsSorted row_cmp (answers version)) → (last version : ℕ) → version ≤ last
+      → IsPermutation (map (λ interval. interval.row) (filter (has_version version) (intervals answers last))) (answers version)
+  pub differences : (rows others : List (List Cell)) → IsSorted row_cmp rows → IsSorted row_cmp others → IsDifference rows others (delta rows others)
+  pub shortest : (is_before : ℕ → ℕ → Bool) (all other : List ℕ) → AllPairs (λ a b. a < b) all → least_cycle is_before all ≢ []
+      → is_cycle is_before other ≡ true → ((t : ℕ) → Contains other t → Contains all t) → length (least_cycle is_before all) ≤ length other
 
 -- of a state of a script, by its lines
 by-lines : (P : State (Unit {0}) → Type 0) (script : List ℕ) (lines : List ReadLine) → IsScript script lines → P (final_state unannotated script) → P (last_state unannotated lines)
@@ -216,6 +234,17 @@ promised laws call has = record {
       (laws.serial (taken lines) texts);
   cycle = λ lines texts. subst (λ (state : State (Unit {0})). serial_answer (dump_of state) ≡ Lines Cycle texts → RunsInCycle state texts) (sym (state-taken unannotated lines start))
       (laws.cycle (taken lines) texts);
+  changes = λ lines. subst (λ (state : State (Unit {0})). AllByRecursion (IsTrue state) (tables_changes 0 (dump_of state).tables)) (sym (state-taken unannotated lines start)) (laws.changes (taken lines));
+  answered = λ lines. subst (λ (state : State (Unit {0})). is_refused (serial_answer (dump_of state)) ≡ false) (sym (state-taken unannotated lines start)) (laws.answered (taken lines));
+  unstopped = λ lines t k. subst
+      (λ (state : State Monomial). 0 < t → t ≤ transactions_in state.entries → k ≤ statement_count t state.entries → own_stop monomials parameters state.entries (y.after t k) state.committed ≡ None)
+      (sym (state-taken monomials lines start)) (laws.unstopped (taken lines) t k);
+  versions = laws.versions;
+  differences = laws.differences;
+  shortest = laws.shortest;
+  lengths = refl;
+  shapes = refl;
+  counts = refl;
 }
 
 -- ---- what follows

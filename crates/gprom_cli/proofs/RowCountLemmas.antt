@@ -41,7 +41,6 @@ use Rattle.gp_whatif.specs.Changed.{changed_log}
 use Rattle.gp_dump.specs.Dumps.{Dump}
 use Rattle.gp_dump.proofs.RowPlaces.{sorted_length}
 use Rattle.gp_semiring.specs.declared.listed.Listed.{Listed}
-use Rattle.gp_semiring.specs.Witnesses.{sets_text}
 use Rattle.gp_semiring.specs.declared.rules.Rule.{Rule}
 use Rattle.gp_semiring.specs.Rules.{first_outside}
 use Rattle.gp_history.specs.DistinctRows.{distinct_rows}
@@ -52,14 +51,15 @@ use Rattle.gp_ask.specs.declared.answered.Answered.{Answered}
 use Rattle.gp_ask.specs.declared.answered.Answered.TheVariants.{Diff, Lines, Program, Refused}
 use Rattle.gp_ask.specs.declared.answered.Heading.{Heading}
 use Rattle.gp_ask.specs.declared.answered.Heading.TheVariants.{Changes, History, When}
-use Rattle.gp_ask.specs.ChangeForms.{version_changes}
+use Rattle.gp_ask.specs.ChangeForms.{changes_over, version_changes}
 use Rattle.gp_machine.specs.RowChanges.{tables_changes}
 use Rattle.gp_serial.specs.Serializing.{InCycle, InOrder, Serial, Undecided, runs_refusal, serial_of}
 use Rattle.gp_ask.specs.SerialAnswers.{answered_serial}
-use Rattle.gp_ask.specs.Changes.{Change, change_texts, changes_over}
+use Rattle.gp_ask.specs.Changes.{Change, change_texts}
+use Rattle.gp_ask.specs.HistoryForms.{dump_history}
 use Rattle.gp_ask.specs.Made.{unmade_refusal}
 use Rattle.gp_ask.specs.Intervals.{Interval, interval_cmp, interval_lines, interval_text, intervals, refusal_upto, version_rows}
-use Rattle.gp_ask.specs.RowHistories.{all_of, dump_history, stop_upto}
+use Rattle.gp_ask.specs.RowHistories.{all_of}
 use Rattle.gp_ask.specs.Looked.{stop_at}
 use Rattle.gp_ask.specs.Seeing.{dump_saw, seen_refusal, unknown_refusal}
 use Rattle.gp_compose.specs.Seen.{changes_refusal, saw_refusal}
@@ -69,7 +69,7 @@ use Rattle.gp_ask.specs.Asking.{element_cmp, grouped, of_elements, put_first, qu
 use Rattle.gp_ask.specs.Printed.{ask_to, changed_answer, query_to}
 use Rattle.gp_ask.specs.Programs.{program_lines}
 use Rattle.gp_ask.specs.AskingForms.{dump_program, dump_provenance, dump_remaining, dump_rows, rules_of, versions_answer}
-use Rattle.gp_ask.specs.ValueForms.{dump_minimal, dump_valued, dump_values}
+use Rattle.gp_ask.specs.ValueForms.{dump_valued, dump_values}
 use Rattle.gp_ask.specs.Deltas.{Signed, delta, with_sign}
 use Rattle.gp_ask.specs.Differences as answers
 use Rattle.gp_ask.specs.DifferenceForms.{causes_of, committed_writes, diff_of, history_of, without_in}
@@ -80,7 +80,6 @@ use Rattle.gp_ask.specs.Values.{or_refused, rule_of, unless_refused, valued, wit
 use Rattle.gp_ask.specs.Questions.{answered}
 use Rattle.gp_ask.specs.Remaining.{are_too_many, has_left_out, remaining, remaining_answer}
 use Rattle.gp_ask.specs.Replays.{dump_in}
-use Rattle.gp_ask.specs.Witnesses.{minimal_of}
 use Rattle.gprom_cli.specs.Summary.{row_count}
 use Rattle.gprom_cli.specs.Summaries.{line_rows, rows_in}
 
@@ -195,21 +194,13 @@ module _ (dump : Dump) (point : y.Point) (select : Select) where
       few-unless (number_refusal name (first_outside semiring.number_of rules.0 rules.1)) (with_values semiring.text_of rows)
       (few-values semiring.text_of rows (few-valued dump.entries (table_spans dump.tables) point select semiring.plus_of semiring.zero_of semiring.one_of semiring.times_of value (tables_in dump.entries)))
 
-  few-minimal : HasFew (dump_minimal dump point select)
-  few-minimal =
-      let elements = all_elements monomials parameters agree (tables_in dump.entries) dump.entries (table_spans dump.tables) point select in
-      few-values sets_text (limited MAX_ANSWER_ROWS minimal_of elements) (few-limited minimal_of elements)
-
   few-by-rules : (name : SemiringName) (rules : List y.Rule) (other : Option ℕ) → HasFew (dump_valued name rules other dump point select)
   few-by-rules named.Count rules other = few-semiring named.Count (rules_of rules other)
   few-by-rules named.Bool rules other = few-semiring named.Bool (rules_of rules other)
   few-by-rules named.Cost rules other = few-semiring named.Cost (rules_of rules other)
   few-by-rules named.Level rules other = few-semiring named.Level (rules_of rules other)
   few-by-rules named.Poly rules other = few-semiring named.Poly (rules_of rules other)
-  few-by-rules named.Witness [] None = few-minimal
-  few-by-rules named.Witness [] (Some n) = few-semiring named.Witness (rules_of [] (Some n))
-  few-by-rules named.Witness (rule ∷ rules) None = few-semiring named.Witness (rules_of (rule ∷ rules) None)
-  few-by-rules named.Witness (rule ∷ rules) (Some n) = few-semiring named.Witness (rules_of (rule ∷ rules) (Some n))
+  few-by-rules named.Witness rules other = few-semiring named.Witness (rules_of rules other)
 
   few-remaining : (patterns : List Rule) → HasFew (dump_remaining patterns dump point select)
   few-remaining patterns =
@@ -316,7 +307,7 @@ few-rows-of : (dump : Dump) (place : Option ℕ) (name : List ℕ) (checked : Re
     → HasFew (or_refused (λ (select : Select). option_map_or (λ (own : ℕ). dump_history dump own select) place (Refused (E04 name))) checked)
 few-rows-of dump place name (Err refusal) = omega arith
 few-rows-of dump None name (Ok select) = omega arith
-few-rows-of dump (Some place) name (Ok select) = few-unless (stop_upto dump (versions_in dump.entries)) _ (few-texts History _ _)
+few-rows-of dump (Some place) name (Ok select) = few-unless (runs_refusal parameters dump.entries (table_spans dump.tables) (versions_in dump.entries)) _ (few-texts History _ _)
 
 few-answer : (dump : Dump) (question : y.Question) → HasFew (computed_answer dump question)
 few-answer dump (y.bare (y.log t)) = few-log (is_known t dump.entries) _ _ refl refl

@@ -1,13 +1,19 @@
 -- Part of the statement: what every call of the program promises. This is the contract of `gprom`, for every shelf and every sink that keep their own
 -- contracts, the real ones included. It speaks of what the shelf has done in the call: which bytes each read gave, and by which bytes a file was replaced.
 -- What follows for each command and each status is in `Consequences`, and for the files that a shelf has in `OverFiles`, both by laws.
-use Rattle.std.specs.Prelude.{◌≡◌, ◌≢◌, ℕ, true, ◌^◌, ◌<◌, ◌≤◌, AllPairs, List, ◌∷◌, length, None, Result, Ok, Err, codes}
+use Rattle.std.specs.List.{AllByRecursion}
+use Rattle.std.specs.List.Sorted.{IsPermutation, IsSorted}
+use Rattle.std.specs.Prelude.{◌≡◌, ◌≢◌, ℕ, Bool, false, true, ◌^◌, ◌<◌, ◌≤◌, AllPairs, Contains, List, [], ◌∷◌, filter, length, map, None, Result, Ok, Err, codes}
 use Rattle.gp_base.specs.Annotated.{monomials, unannotated}
 use Rattle.gp_base.specs.Catalogs.{table_names}
 use Rattle.gp_base.specs.declared.cell.Cell.{Cell}
+use Rattle.gp_base.specs.declared.name.TheConstants.{MAX_NAME_LENGTH}
 use Rattle.gp_base.specs.declared.table.Table.{Table}
+use Rattle.gp_base.specs.declared.text.TheConstants.{MAX_TEXT_LENGTH}
+use Rattle.gp_base.specs.Order.{row_cmp}
 use Rattle.gp_algebra.specs.Plain.{PlainProgram}
 use Rattle.gp_grammar.specs.CommandGrammar.{IsScriptLine}
+use Rattle.gp_grammar.specs.declared.limits.TheConstants.{MAX_BRANCHES, MAX_CHANGES, MAX_COLUMNS, MAX_FROM, MAX_LEVELS, MAX_LINE_LENGTH, MAX_NODES, MAX_OPEN, MAX_SESSION, MAX_VALUES}
 use Rattle.gp_grammar.specs.Limits.{line_shape, question_shape}
 use Rattle.gp_grammar.specs.LineReading.{AreReadOnce}
 use Rattle.gp_grammar.specs.QuestionGrammar.{IsQuestion}
@@ -15,6 +21,7 @@ use Rattle.gp_grammar.specs.Syntax as y
 use Rattle.gp_script.specs.History.{IsScript, ReadLine, last_state}
 use Rattle.gp_script.specs.declared.script.TheConstants.{MAX_SCRIPT_LENGTH}
 use Rattle.gp_syntax.specs.Lines.{script_lines}
+use Rattle.gp_dump.specs.declared.dump.TheConstants.{MAX_DUMP_LENGTH}
 use Rattle.gp_dump.specs.Dumps.{Dump, dump_of}
 use Rattle.gp_dump.specs.Rules.{FirstFault, WellFormed}
 use Rattle.gp_plantext.specs.Spelling.{Spells}
@@ -22,28 +29,35 @@ use Rattle.gp_sql.specs.Spelled.{HaveOwnNames, SpellsQuery}
 use Rattle.gp_sql.specs.Sql.{With}
 use Rattle.gp_log.specs.LogFacts.{tables_in}
 use Rattle.gp_log.specs.Parameters.{parameters}
-use Rattle.gp_machine.specs.Entries.{Entry}
+use Rattle.gp_machine.specs.Entries.{Entry, statement_count, transactions_in}
 use Rattle.gp_machine.specs.Event.{after}
+use Rattle.gp_machine.specs.Questions.{own_stop}
 use Rattle.gp_machine.specs.Replayed.{replayed_state}
+use Rattle.gp_machine.specs.RowChanges.{tables_changes}
 use Rattle.gp_machine.specs.State.{start}
 use Rattle.gp_csv.specs.Titled.{AreReloadable}
 use Rattle.gp_load.specs.Reloading.{LoadsAgain}
 use Rattle.gp_replay.specs.Differences.{IsOfHistory, difference}
+use Rattle.gp_serial.specs.Graphs.{is_cycle, least_cycle}
 use Rattle.gp_ask.specs.declared.answered.Answered.TheVariants.{Lines, Sheet}
 use Rattle.gp_ask.specs.Answers.{answer_to, held_to}
 use Rattle.gp_ask.specs.declared.format.Format.{Format}
 use Rattle.gp_ask.specs.declared.format.Format.TheVariants.{Text, Named, Sql}
 use Rattle.gp_ask.specs.Compared.{AnswersAsMade, compares_histories}
+use Rattle.gp_ask.specs.Deltas.{IsDifference, delta}
 use Rattle.gp_ask.specs.Explained.{ExplainsLines}
 use Rattle.gp_ask.specs.Formats.{text_in}
 use Rattle.gp_ask.specs.Hypothetical.{remaking_refusal, replayed_dump}
+use Rattle.gp_ask.specs.Intervals.{has_version, intervals}
 use Rattle.gp_ask.specs.Isolated.{IsIsolated, LosesToFirst}
-use Rattle.gp_ask.specs.Questions.{AreQuestions, ReadQuestion}
+use Rattle.gp_ask.specs.Questions.{AreQuestions, ReadQuestion, is_refused}
 use Rattle.gp_ask.specs.SerialAnswers.{serial_answer}
-use Rattle.gp_ask.specs.SerialHistories.{RunsInCycle, RunsSerially}
+use Rattle.gp_ask.specs.SerialHistories.{IsTrue, RunsInCycle, RunsSerially}
 use Rattle.gp_ask.specs.declared.answered.Heading.TheVariants.{Cycle, Serial}
 use Rattle.gp_ask.specs.SqlAnswers.{AreStored, AsksLines}
 use Rattle.gp_whatif.specs.Changed.{changed_log}
+use Rattle.gprom_cli.specs.declared.generated.TheConstants.{MAX_ROUNDS}
+use Rattle.gprom_cli.specs.declared.load.TheConstants.{MAX_SHEET_LENGTH}
 use Rattle.gprom_cli.specs.Call.{Call, HasOutcome, Shown, history_dump}
 
 -- what the bytes of a file are read as: a dump, or the number of the first rule that fails and that of its line
@@ -67,11 +81,10 @@ pub record Promises (call : Call) : Type 0 where
   pub unchanged : (script : List ℕ) (lines : List ReadLine) → length script ≤ MAX_SCRIPT_LENGTH → IsScript script lines
       → (remaking_refusal (last_state unannotated lines).entries ≡ None) × (replayed_dump (last_state unannotated lines).entries ≡ dump_of (last_state unannotated lines))
   -- From the dump of a history, of whatever lines, every question is answered as the history held it, with the provenance of each row there, though the dump
-  -- has none: so with its value in each of the six semirings, without rules in witnesses exactly with its minimal token sets, and without the rows of some tokens with
-  -- exactly the rows that the query gives over the annotated history without these rows. What a transaction saw is the query over what the history machine
-  -- held for it, and what a statement or a commit changed are the rows that it wrote, as the machine held them before and after, whatever became of the
-  -- transaction. What would be with a change is what the history held that the commits of the changed log, made again, lead to, and so it is answered from
-  -- any dump.
+  -- has none: so with its value in each of the six semirings, and without the rows of some tokens with exactly the rows that the query gives over the annotated
+  -- history without these rows. What a transaction saw is the query over what the history machine held for it, and what a statement changed is what it changes of
+  -- what its transaction read by the rule of the machine, whatever became of the transaction. What would be with a change is what the history held that the commits
+  -- of the changed log, made again, lead to, and so it is answered from any dump.
   pub held : (format : Format) (lines : List ReadLine) (question : y.Question)
       → answer_to (shown format) (dump_of (last_state unannotated lines)) question ≡ held_to (shown format) (last_state monomials lines) question
   -- Every query that the questions of a file ask to explain, of whatever well-formed dump, has as answer the lines of the text of one program that on every
@@ -108,3 +121,26 @@ pub record Promises (call : Call) : Type 0 where
   -- statement, the same rows of each query and the same last version; and each line of a cycle is true of the history, each from one transaction to the next.
   pub serial : (lines : List ReadLine) (texts : List (List ℕ)) → serial_answer (dump_of (last_state unannotated lines)) ≡ Lines Serial texts → RunsSerially (last_state unannotated lines) texts
   pub cycle : (lines : List ReadLine) (texts : List (List ℕ)) → serial_answer (dump_of (last_state unannotated lines)) ≡ Lines Cycle texts → RunsInCycle (last_state unannotated lines) texts
+  -- Each row that the row versions of a history show as changed by a commit was written by it, with these cells in the version before and in its own.
+  pub changes : (lines : List ReadLine) → AllByRecursion (IsTrue (last_state unannotated lines)) (tables_changes 0 (dump_of (last_state unannotated lines)).tables)
+  -- No history refuses SERIAL, and no statement of any of its transactions passes a limit where it is run again, as for SAW. So E25 and E26 come only of changed
+  -- histories.
+  pub answered : (lines : List ReadLine) → is_refused (serial_answer (dump_of (last_state unannotated lines))) ≡ false
+  pub unstopped : (lines : List ReadLine) (t k : ℕ) → 0 < t → t ≤ transactions_in (last_state monomials lines).entries → k ≤ statement_count t (last_state monomials lines).entries
+      → own_stop monomials parameters (last_state monomials lines).entries (y.after t k) (last_state monomials lines).committed ≡ None
+  -- What is computed for WHEN, for DIFF and CAUSES, and for a cycle of SERIAL is what they mean: the rows of the intervals that have a version are, as a bag, the
+  -- answer over it; a difference is that of both answers; and of all cycles of the transactions none is shorter than the one that is given.
+  pub versions : (answers : ℕ → List (List Cell)) → ((version : ℕ) → IsSorted row_cmp (answers version)) → (last version : ℕ) → version ≤ last
+      → IsPermutation (map (λ interval. interval.row) (filter (has_version version) (intervals answers last))) (answers version)
+  pub differences : (rows others : List (List Cell)) → IsSorted row_cmp rows → IsSorted row_cmp others → IsDifference rows others (delta rows others)
+  pub shortest : (is_before : ℕ → ℕ → Bool) (all other : List ℕ) → AllPairs (λ a b. a < b) all → least_cycle is_before all ≢ []
+      → is_cycle is_before other ≡ true → ((t : ℕ) → Contains other t → Contains all t) → length (least_cycle is_before all) ≤ length other
+  -- The numbers of the limits, which the definitions take from the code. The bytes of a name, a text, a line, a script, a sheet and a dump, and the rounds of `gen`.
+  pub lengths : (MAX_NAME_LENGTH ∷ MAX_TEXT_LENGTH ∷ MAX_LINE_LENGTH ∷ MAX_SCRIPT_LENGTH ∷ MAX_SHEET_LENGTH ∷ MAX_DUMP_LENGTH ∷ MAX_ROUNDS ∷ [])
+      ≡ 30 ∷ 255 ∷ 4096 ∷ 16777216 ∷ 16777216 ∷ 67108864 ∷ 400 ∷ []
+  -- Of a line: sessions; columns, items of a FROM, blocks, tuples; nodes and levels of a term, open brackets; changes.
+  pub shapes : (MAX_SESSION ∷ MAX_COLUMNS ∷ MAX_FROM ∷ MAX_BRANCHES ∷ MAX_VALUES ∷ MAX_NODES ∷ MAX_LEVELS ∷ MAX_OPEN ∷ MAX_CHANGES ∷ [])
+      ≡ 64 ∷ 16 ∷ 4 ∷ 8 ∷ 100 ∷ 200 ∷ 60 ∷ 60 ∷ 16 ∷ []
+  -- Of a history: tables, transactions, the statements of a transaction and of all; rows of a table and of an answer, nodes of an identity, row versions.
+  pub counts : (parameters.tables ∷ parameters.transactions ∷ parameters.steps ∷ parameters.statements ∷ parameters.rows ∷ parameters.answer ∷ parameters.nodes ∷ parameters.published ∷ [])
+      ≡ 16 ∷ 1000 ∷ 256 ∷ 2000 ∷ 10000 ∷ 50000 ∷ 64 ∷ 100000 ∷ []

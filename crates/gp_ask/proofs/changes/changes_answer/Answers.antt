@@ -7,8 +7,7 @@ use Rattle.gp_log.specs.Logs.{log_view}
 use Rattle.gp_machine.specs.Entries.{statement_at, statement_count}
 use Rattle.gp_machine.specs.Questions.{is_known}
 use Rattle.gp_ask.specs.declared.answered.Answered.{Answered}
-use Rattle.gp_ask.specs.ChangeForms.{dump_changes, if_any}
-use Rattle.gp_ask.specs.Changes.{numbered_changes}
+use Rattle.gp_ask.specs.ChangeForms.{changes_told, dump_changes, if_any}
 use Rattle.gp_ask.specs.Computed.{computed_answer}
 use Rattle.gp_ask.specs.Values.{unless_refused}
 use Rattle.gp_ask.proofs.ChangesLemmas.{changes-by, known-changed, numbered-changed}
@@ -41,7 +40,7 @@ statement_changes-requires-clause-most c =
 pub returns-in-Some : goal.returns-in-Some
 returns-in-Some c =
     let dump = dump_view c.args.dump.now in
-    ap (λ (refusal : Option Refusal). unless_refused refusal (numbered_changes dump c.args.t c.args.k)) c.in-Some.ensures
+    ap (λ (refusal : Option Refusal). unless_refused refusal (changes_told dump c.args.t c.args.k)) c.in-Some.ensures
 
 pub returns-in-None : goal.returns-in-None
 returns-in-None c =

@@ -7,8 +7,7 @@ use Rattle.gp_log.specs.LogFacts.{tables_in}
 use Rattle.gp_log.specs.Logs.{log_view}
 use Rattle.gp_versions.specs.declared.span.Span.{Span}
 use Rattle.gp_versions.specs.Spans.{Versions}
-use Rattle.gp_ask.specs.ChangeForms.{tables_texts}
-use Rattle.gp_ask.specs.Changes.{spans_texts}
+use Rattle.gp_ask.specs.ChangeForms.{spans_texts, tables_texts}
 use Rattle.gp_ask.proofs.ChangesLemmas.{tables-more}
 use Rattle.gp_ask.proofs.changes.commit_lines.Goals as goal
 

@@ -1,6 +1,6 @@
+use Rattle.gp_ask.specs.ChangeForms.{spans_texts}
 use Rattle.std.proofs.Common.{◌≡◌, ◌++◌, None, drop}
 use Rattle.std.specs.Option.{option_map}
-use Rattle.gp_ask.specs.Changes.{spans_texts}
 use Rattle.gp_ask.proofs.changes.push_table.Given as goal
 
 -- the spans that remain give the other lines

@@ -25,4 +25,4 @@ returns c =
     (c.in_ok-first_texts.ensures
     ∙ ap (λ (rows : List (List Cell)). first_texts None (sorted_by row_cmp rows)) (c.in_ok-lines.ensures ∙ ap (λ n. keyed_from 0 (f.first_conflicts dump n t count)) c.commits_before_end-upto.ensures)
     ∙ texts-are dump t upto c.args.dump.now.answerable.sessions count (omega arith))
-    ∙ ap (λ (stop : Option Refusal). unless_refused stop (s.conflicts_of dump.entries (tables_in dump.entries) (s.dump_wrote dump) t (s.firsts (s.dump_written dump t count)))) (sym c.requires.runs)
+    ∙ ap (λ (stop : Option Refusal). unless_refused stop (s.conflicts_of dump.entries (tables_in dump.entries) (f.dump_wrote dump) t (s.firsts (s.dump_written dump t count)))) (sym c.requires.runs)

@@ -1,6 +1,7 @@
 use Rattle.std.proofs.Common.{◌≡◌, suc, ◌+◌, drop, ap, ◌∙◌, arith}
 use Rattle.std.specs.declared.cmp.Ordering.TheVariants.{Less, Equal, Greater}
-use Rattle.gp_ask.specs.Deltas.{added_in, delta, removed_in}
+use Rattle.gp_ask.specs.DeltaForms.{added_in, removed_in}
+use Rattle.gp_ask.specs.Deltas.{delta}
 use Rattle.gp_ask.proofs.DeltaLemmas.{first_of, rows_compared}
 use Rattle.gp_ask.proofs.deltas.delta_sizes.Goals as goal
 

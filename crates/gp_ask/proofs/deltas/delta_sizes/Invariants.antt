@@ -1,5 +1,6 @@
 use Rattle.std.proofs.Common.{◌≡◌, ◌≤◌, ◌+◌, ◌-◌, length, drop}
-use Rattle.gp_ask.specs.Deltas.{added_in, delta, removed_in}
+use Rattle.gp_ask.specs.DeltaForms.{added_in, removed_in}
+use Rattle.gp_ask.specs.Deltas.{delta}
 use Rattle.gp_ask.proofs.deltas.delta_sizes.Given as goal
 
 -- the rows counted so far, and those of the difference of what remains, are those of the difference

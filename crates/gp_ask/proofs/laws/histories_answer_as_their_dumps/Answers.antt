@@ -23,7 +23,6 @@ use Rattle.gp_ask.specs.Hypothetical.{replayed_dump}
 use Rattle.gp_ask.specs.Made.{unmade_refusal}
 use Rattle.gp_ask.specs.Printed.{answer_to, held_to}
 use Rattle.gp_ask.specs.Asking.{table_spans}
-use Rattle.gp_ask.proofs.CommittedLines.{commits}
 use Rattle.gp_ask.proofs.HeldLemmas.{forgetting, held}
 use Rattle.gp_ask.proofs.LivesLemmas.{lives}
 use Rattle.gp_ask.proofs.MadeLemmas.{IsRemade, is-remade, none-unmade}
@@ -60,6 +59,9 @@ returns c = λ lines question.
     (sym (kept table)) (c.spans_hold_the_versions.ensures.ends state table) in
     let tables : List (List Span) = (dump_of (forgetting state)).tables in
     let bags : (table : ℕ) → SameBag (spans table) (state_spans (forgetting state) table) = λ table. unpermuted _ _ (dumped (forgetting state) beyond table) in
+    let own : (table : ℕ) → SameBag (table_spans (dump_of state).tables table) (state_spans (forgetting state) table) =
+    λ table. subst (SameBag (table_spans (dump_of state).tables table)) (sym (kept table))
+    (unpermuted _ _ (dumped state (λ place past. c.commits_publish_the_spans.ensures.beyond monomials parameters targets-checked lines place past) table)) in
     let whole : tables_in state.entries ≡ state.catalogue = tables-kept monomials parameters start lines refl in
     let plain-tables : tables_in (after unannotated parameters start lines).entries ≡ (after unannotated parameters start lines).catalogue = tables-kept unannotated parameters start lines refl in
     let remade : IsRemade (after unannotated parameters start lines) =
@@ -69,12 +71,8 @@ returns c = λ lines question.
     (held state kept whole
     (sees state reached plainly sessions once whole tables bags)
     (alters state reached plainly sessions once whole tables bags)
-    (commits state reached.history sessions once whole (λ table past. c.commits_publish_the_spans.ensures.beyond monomials parameters targets-checked lines table past)
-    (λ version table within. c.spans_hold_the_versions.ensures.rows monomials parameters state reached version table within)
-    (λ version table. c.a_version_has_one_row_of_an_identity.ensures.different version (state_spans state table) (c.spans_hold_the_versions.ensures.apart monomials parameters state reached table))
-    (λ name version table within. c.commits_show_what_they_wrote.ensures lines name version table within))
     (meets state reached plainly sessions once whole tables bags ends)
-    (lives state reached plainly sessions once whole tables bags)
+    (lives state reached plainly sessions once whole tables bags own)
     (λ how point query. c.unstopped_histories_answer_as_their_dumps.ensures state (c.histories_do_not_stop.ensures.reached monomials parameters lines) (tables-kept monomials parameters start lines refl)
     (dump_of (forgetting state)).tables moved how point query)
     (subst (λ (s : State (Unit {0})). unmade_refusal (dump_of s) ≡ None) same

@@ -2,8 +2,7 @@ use Rattle.std.proofs.Common.{map}
 use Rattle.std.specs.Prelude.{filter}
 use Rattle.gp_base.proofs.Permutations.{permuted}
 use Rattle.gp_machine.specs.Entries.{versions_in}
-use Rattle.gp_ask.specs.IntervalForms.{has_version}
-use Rattle.gp_ask.specs.Intervals.{Interval, intervals}
+use Rattle.gp_ask.specs.Intervals.{Interval, has_version, intervals}
 use Rattle.gp_ask.proofs.CarriedLemmas.{ascends}
 use Rattle.gp_ask.proofs.IntervalBags.{intervals-found}
 use Rattle.gp_ask.proofs.WhenLemmas.{unrefused}

@@ -12,7 +12,6 @@ use Rattle.gp_reenact.specs.LookingForms.{Looks}
 use Rattle.gp_base.specs.declared.stop.Stop.TheVariants as stop
 use Rattle.gp_ask.specs.HistoryForms as f
 use Rattle.gp_ask.specs.Looked as l
-use Rattle.gp_ask.specs.RowHistories as s
 use Rattle.gp_ask.specs.RowLines.{few, keyed_from}
 use Rattle.gp_ask.proofs.HistoryLines.{maker-known, stop-later}
 use Rattle.gp_ask.proofs.row_histories.history_lines.Goals as goal
@@ -33,11 +32,11 @@ loop-before-preserved c =
     let u = c.loop-before.before in
     let next : u + 1 ≡ suc u = omega arith in
     let maker : c.maker-t.result ≡ committer_of (suc u) dump.entries = c.maker-t.ensures ∙ ap (λ n. committer_of n dump.entries) next in
-    let stops : s.stop_upto dump (suc u) ≡ None = (λ i. option_or (c.loop-before.invariant.0 i) (l.stop_of dump (sym maker i))) ∙ sym c.in_ok-refusal.ensures ∙ c.in-None.is in
+    let stops : f.stop_upto dump (suc u) ≡ None = (λ i. option_or (c.loop-before.invariant.0 i) (l.stop_of dump (sym maker i))) ∙ sym c.in_ok-refusal.ensures ∙ c.in-None.is in
     let lines : c.push_transaction.new.lines.items ≡ keyed_from 0 (few (f.versions_changes dump rows.table asked (suc u))) =
     c.in_ok-push_transaction-in-None.ensures (f.versions_changes dump rows.table asked u) c.loop-before.invariant.1
     ∙ (λ i. keyed_from 0 (few (f.versions_changes dump rows.table asked u ++ f.first_changes dump rows.table asked (next i) (maker i) (statement_count (maker i) dump.entries)))) in
-    (ap (s.stop_upto dump) next ∙ stops, lines ∙ ap (λ n. keyed_from 0 (few (f.versions_changes dump rows.table asked n))) (sym next))
+    (ap (f.stop_upto dump) next ∙ stops, lines ∙ ap (λ n. keyed_from 0 (few (f.versions_changes dump rows.table asked n))) (sym next))
 
 pub push_transaction-requires-clause-known : goal.push_transaction-requires-clause-known
 push_transaction-requires-clause-known c =
@@ -56,8 +55,8 @@ returns-in-Some c =
     let next : u + 1 ≡ suc u = omega arith in
     let maker : c.maker-t.result ≡ committer_of (suc u) dump.entries = c.maker-t.ensures ∙ ap (λ n. committer_of n dump.entries) next in
     let refusal = c.in-Some.refusal in
-    let here : s.stop_upto dump (suc u) ≡ Some refusal = (λ i. option_or (c.loop-before.invariant.0 i) (l.stop_of dump (sym maker i))) ∙ sym c.in_ok-refusal.ensures ∙ c.in-Some.is in
-    let all : s.stop_upto dump (versions_in dump.entries) ≡ Some refusal = stop-later dump refusal (suc u) (versions_in dump.entries) (omega (arith, c.commits-before-end.ensures, c.loop-before-test.true)) here in
+    let here : f.stop_upto dump (suc u) ≡ Some refusal = (λ i. option_or (c.loop-before.invariant.0 i) (l.stop_of dump (sym maker i))) ∙ sym c.in_ok-refusal.ensures ∙ c.in-Some.is in
+    let all : f.stop_upto dump (versions_in dump.entries) ≡ Some refusal = stop-later dump refusal (suc u) (versions_in dump.entries) (omega (arith, c.commits-before-end.ensures, c.loop-before-test.true)) here in
     subst (λ (found : Option Refusal). Looks (λ (lines : Vec Row Global). lines.items) (Err (stop.Refused refusal)) (given found (keyed_from 0 (few (f.versions_changes dump rows.table asked (versions_in dump.entries)))))) (sym all) refl
 
 pub returns : goal.returns
@@ -68,4 +67,4 @@ returns c =
     let lines = c.loop-before.lines in
     let all : c.loop-before.before ≡ versions_in dump.entries = omega (arith, c.commits-before-end.ensures, c.loop-before-test.false) in
     subst (λ (found : Option Refusal). Looks (λ (lines : Vec Row Global). lines.items) (Ok lines) (given found (keyed_from 0 (few (f.versions_changes dump rows.table asked (versions_in dump.entries))))))
-    (sym (ap (s.stop_upto dump) (sym all) ∙ c.loop-before.invariant.0)) (c.loop-before.invariant.1 ∙ ap (λ n. keyed_from 0 (few (f.versions_changes dump rows.table asked n))) all)
+    (sym (ap (f.stop_upto dump) (sym all) ∙ c.loop-before.invariant.0)) (c.loop-before.invariant.1 ∙ ap (λ n. keyed_from 0 (few (f.versions_changes dump rows.table asked n))) all)

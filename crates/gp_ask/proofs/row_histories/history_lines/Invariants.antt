@@ -3,8 +3,7 @@ use Rattle.std.specs.BTreeMap.{get}
 use Rattle.std.specs.Option.{is_some}
 use Rattle.gp_base.specs.Identities.{identity_cmp}
 use Rattle.gp_dump.specs.Views.{dump_view}
-use Rattle.gp_ask.specs.HistoryForms.{versions_changes}
-use Rattle.gp_ask.specs.RowHistories.{stop_upto}
+use Rattle.gp_ask.specs.HistoryForms.{stop_upto, versions_changes}
 use Rattle.gp_ask.specs.RowLines.{few, keyed_from}
 use Rattle.gp_ask.proofs.row_histories.history_lines.Given as goal
 

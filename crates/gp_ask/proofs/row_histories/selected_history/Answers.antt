@@ -14,8 +14,7 @@ use Rattle.gp_reenact.specs.Reenacting.{spans_of}
 use Rattle.gp_versions.specs.declared.span.Span.{Span}
 use Rattle.gp_ask.specs.declared.answered.Answered.{Answered}
 use Rattle.gp_ask.specs.declared.answered.Answered.TheVariants.{Refused}
-use Rattle.gp_ask.specs.HistoryForms.{narrowed, span_asks}
-use Rattle.gp_ask.specs.RowHistories as s
+use Rattle.gp_ask.specs.HistoryForms.{dump_asked, narrowed, span_asks, stop_upto}
 use Rattle.gp_ask.proofs.HistoryLines.{found-history, refused-history, simple-select}
 use Rattle.gp_ask.proofs.ReenactedLemmas.{dump-spans}
 use Rattle.gp_ask.proofs.row_histories.selected_history.Goals as goal
@@ -36,8 +35,8 @@ returns-in-Ok c =
     let dump : Dump = dump_view c.args.dump.now in
     let select = select_view c.args.select.now in
     let asked : Identity → Bool = λ (id : Identity). is_some (get identity_cmp c.in_ok-asked.asked id) in
-    let same : (id : Identity) → asked id ≡ s.dump_asked dump c.args.table select id = λ id. c.in_ok-asked.ensures id ∙ ap (list_any (span_asks select id)) c.spans_of.ensures in
-    let is = found-history dump c.args.table select asked same (s.stop_upto dump (versions_in dump.entries)) (λ (lines : Vec Row Global). lines.items) c.in-Ok.lines c.in-Ok.ensures in
+    let same : (id : Identity) → asked id ≡ dump_asked dump c.args.table select id = λ id. c.in_ok-asked.ensures id ∙ ap (list_any (span_asks select id)) c.spans_of.ensures in
+    let is = found-history dump c.args.table select asked same (stop_upto dump (versions_in dump.entries)) (λ (lines : Vec Row Global). lines.items) c.in-Ok.lines c.in-Ok.ensures in
     subst (λ (own : Answered). IfOk c.listed.result (λ answered. answered ≡ own)) is c.listed.ensures
 
 pub returns-in-Err-Refused : goal.returns-in-Err-Refused
@@ -45,6 +44,6 @@ returns-in-Err-Refused c =
     let dump : Dump = dump_view c.args.dump.now in
     let select = select_view c.args.select.now in
     let asked : Identity → Bool = λ (id : Identity). is_some (get identity_cmp c.in_ok-asked.asked id) in
-    let same : (id : Identity) → asked id ≡ s.dump_asked dump c.args.table select id = λ id. c.in_ok-asked.ensures id ∙ ap (list_any (span_asks select id)) c.spans_of.ensures in
+    let same : (id : Identity) → asked id ≡ dump_asked dump c.args.table select id = λ id. c.in_ok-asked.ensures id ∙ ap (list_any (span_asks select id)) c.spans_of.ensures in
     ap Refused c.in-Err-Refused.refusal-is
-    ∙ refused-history dump c.args.table select asked same (s.stop_upto dump (versions_in dump.entries)) (λ (lines : Vec Row Global). lines.items) c.in-Err-Refused.refusal (rw c.in-Err-Refused.field-0-is at c.in-Err-Refused.ensures)
+    ∙ refused-history dump c.args.table select asked same (stop_upto dump (versions_in dump.entries)) (λ (lines : Vec Row Global). lines.items) c.in-Err-Refused.refusal (rw c.in-Err-Refused.field-0-is at c.in-Err-Refused.ensures)

@@ -11,7 +11,7 @@ use Rattle.gp_ask.specs.Computed.{computed_answer}
 use Rattle.gp_ask.specs.AskingForms.{dump_query, rules_of}
 use Rattle.gp_ask.specs.ValueForms.{dump_values}
 use Rattle.gp_ask.specs.Operations.{operations_of}
-use Rattle.gp_ask.proofs.WitnessLemmas.{asked_values}
+use Rattle.gp_ask.proofs.AskedValues.{asked_values}
 use Rattle.gp_ask.proofs.states.state_answer.Goals as goal
 
 pub returns-in-Rows-clause-answered : goal.returns-in-Rows-clause-answered

@@ -1,5 +1,6 @@
 use Rattle.std.proofs.Common.{refl, map}
 use Rattle.std.specs.Prelude.{string_bytes}
+use Rattle.gp_serial.specs.LeastCycles.{IsCycleOf}
 use Rattle.gprom_cli.specs.Args.{command_of}
 use Rattle.gprom_cli.specs.Call.{Call}
 use Rattle.gprom_cli.specs.Promises.{Promises}
@@ -13,6 +14,7 @@ returns g c =
     let histories = c.dumps_of_histories_are_known.ensures in
     let isolated = c.histories_are_isolated.ensures in
     let serial = c.serial_answers_are_true.ensures in
+    let deltas = c.deltas_are_differences.ensures in
     let call : Call = record {
       command = command_of (map string_bytes c.args.args.now);
       events = ends.events;
@@ -39,6 +41,18 @@ returns g c =
       remade = isolated.remade;
       serial = serial.serial;
       cycle = serial.cycle;
+      changes = serial.changes;
+      answered = serial.answered;
+      unstopped = c.statements_of_histories_do_not_stop.ensures;
+      versions = c.intervals_agree_with_versions.ensures.bags;
+      differences = λ rows others one two. record {
+        bags = deltas.bags rows others;
+        signs = deltas.signs rows others one two;
+        order = deltas.order rows others one two;
+      };
+      shortest = λ is_before all other up some closes among.
+          let is : IsCycleOf is_before all other = record { closes = closes; among = among } in
+          (c.least_cycles_are_shortest.ensures is_before all up some).shortest other is;
     })
     call ends.outcome in
     (call, refl, ends.grown, refl, refl, c.number.ensures, promises)
