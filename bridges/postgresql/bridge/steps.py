@@ -1,0 +1,86 @@
+"""Transactions of the server and their steps, whether a log or a capture gave them."""
+from dataclasses import dataclass, field
+
+from .statements import Target
+from .terms import Statement
+
+
+@dataclass
+class Step:
+    """A statement of the log: one of gprom, or the reason why there is none."""
+    line: int
+    start: float
+    end: float
+    statement: Statement = None     # None if gprom cannot express it
+    reason: str = ''
+    target: Target = field(default_factory=Target)      # which row images may be those of one without a statement
+    only_reads: bool = False        # but for functions: it is left out, if no row images are its own
+    version: int = 0                # how many commits of the slot stand before it
+    narrowed: bool = False          # to the rows that the slot shows
+    filled: bool = False            # with values that the server computed
+    literals: list = None           # statements of its row images, which stand in its place
+    seen: int = None                # of a capture: how many commits its snapshot sees
+    until: int = None               # of a capture: how many the newest test of its rows may have seen
+    rows: int = None                # of a capture: how many rows it gave or wrote
+    shares: bool = False            # of a capture: FOR KEY SHARE, which waits for those that delete its rows, and not for those that update them
+    blind: bool = False             # of a capture: the rows that it wrote are not known by their number
+
+    @property
+    def writes(self):
+        return self.statement is None or self.statement.kind != 'select'
+
+    @property
+    def locks(self):
+        """Whether it locks rows that are there. Then it may wait for their writers, and goes on with the rows as they left them."""
+        return self.statement is not None and (self.statement.kind in ('update', 'delete') or self.statement.locks or self.shares)
+
+
+@dataclass
+class Transaction:
+    session: str
+    level: str
+    line: int                       # of the log
+    implicit: bool = False          # without BEGIN: the statements of one message, or of one pipeline
+    virtual: str = ''               # its number in the backend
+    steps: list = field(default_factory=list)
+    started: float = None           # the first statement's start and end: a snapshot is taken in between
+    first_end: float = None
+    xid: str = '0'
+    fate: str = 'active'
+    end_line: int = 0
+    end: float = float('inf')
+    commit: int = None              # index into the commits of the slot, from 0
+    reason: str = ''                # why it is not covered as a whole
+    in_part: bool = False           # the slot has images of it that are no rows of gprom
+    lowest: int = 0                 # the commits that its session had seen before
+    version: int = 0                # how many commits stand before its BEGIN
+    settled: bool = False           # its statements write the rows of the slot where they stand
+    literals: list = field(default_factory=list)        # statements of its row images, which stand in the place of all its steps
+    savepoints: list = field(default_factory=list)      # (name, how many steps stand before it)
+    unsaid: list = field(default_factory=list)          # (log line, reason) of reads that are not in the script
+    exact: bool = False             # its snapshots are known
+    failed: bool = False
+
+    @property
+    def is_snapshot(self):
+        """Whether its level is snapshot isolation in gprom."""
+        return self.level in ('repeatable read', 'serializable')
+
+    def uncovered(self):
+        """The steps that gprom does not run as the server did."""
+        return [step for step in self.steps if step.literals is not None or step.statement is None and not step.only_reads]
+
+    def reasons(self):
+        """Why gprom does not run all of it as the server did: each reason once, with the first line of the log that has it."""
+        first = {}
+        for step in self.uncovered():
+            first.setdefault(step.reason, step.line)
+        return '; '.join(f'log line {line}: {reason}' for reason, line in first.items())
+
+    def writes(self):
+        return [step for step in self.steps if step.writes]
+
+    def may_write(self, tables):
+        """Whether one of its statements is of these tables, or of any."""
+        names = {step.statement.table if step.statement else step.target.table for step in self.writes()}
+        return bool(names & (tables | {''}))
