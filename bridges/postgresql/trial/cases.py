@@ -5,6 +5,7 @@ for the other session. In the end every transaction has to be `same`, or `not co
 last version those of the server. `expected` says which, so that nothing gets worse unseen: the kind of each transaction that
 `verify` lists. What no verdict tells, such as what was read, `answers` says.
 """
+import re
 from dataclasses import dataclass, field
 
 from .judge import ask
@@ -16,7 +17,11 @@ HISTORY = 'CREATE TABLE history (id INTEGER, bal INTEGER);'
 PARENTS = """CREATE TABLE parent (id INTEGER PRIMARY KEY); INSERT INTO parent VALUES (1), (2);
              CREATE TABLE child (id INTEGER PRIMARY KEY, parent INTEGER REFERENCES parent {rule});
              INSERT INTO child VALUES (10, 1), (11, 1), (12, 2);"""
+DOCTORS = """CREATE TYPE duty AS ENUM ('on call', 'off call');
+             CREATE TABLE doctor (id INTEGER PRIMARY KEY, state duty); INSERT INTO doctor VALUES (1, 'on call'), (2, 'on call');
+             CREATE TABLE shift (doctor INTEGER, hours INTEGER); INSERT INTO shift VALUES (1, 8);"""
 NEXT = 'UPDATE acct SET bal = bal + 1 WHERE id = 1'     # shows that later transactions find the rows that they found on the server
+UNSAID = re.compile(r'; (\d+) reads cannot be said, so SERIAL and ANOMALIES of this history are incomplete')
 PATIENCE = 1.0         # seconds without a reply, after which a statement is taken to wait
 
 
@@ -28,6 +33,24 @@ class Case:
     statements: list[str]
     expected: str = ''
     answers: dict[str, list[str]] = field(default_factory=dict)     # by the question, the lines under the first
+    unsaid: int = 0                                     # reads of functions and triggers, which no log has, by the last line of `verify`
+
+
+def write_skews():
+    """Write skews whose reads are in statements that are patched, or in conditions that gprom has no words for."""
+    off = "UPDATE doctor SET state = 'off call' WHERE id = {}"
+    pay = 'UPDATE acct SET bal = 0 WHERE id = {}'
+    for name, setup, look, write, tables, kinds in (
+            ('ON CONFLICT', ACCOUNTS, 'INSERT INTO acct VALUES ({}, 0) ON CONFLICT (id) DO NOTHING', pay, ('acct', 'acct'), 'patched, patched'),
+            ('EXISTS', ACCOUNTS, 'SELECT id FROM acct WHERE EXISTS (SELECT 1 FROM acct o WHERE o.id = {} AND o.bal > 5)', pay, ('acct', 'acct'), 'same, same'),
+            ('an enum', DOCTORS, "SELECT count(*) FROM doctor WHERE state = 'on call' AND id = {}", off, ('doctor', 'doctor'), 'same, same'),
+            ('a LEFT JOIN', DOCTORS, 'SELECT d.state, s.hours FROM doctor d LEFT JOIN shift s ON s.doctor = d.id WHERE d.id = {}', off,
+             ('doctor', 'doctor'), 'same, same')):
+        begin = 'BEGIN ISOLATION LEVEL REPEATABLE READ'
+        yield Case(f'a write skew through {name}', setup,
+                   [begin, look.format(1), f'b: {begin}', f'b: {look.format(2)}', write.format(2), f'b: {write.format(1)}', 'COMMIT', 'b: COMMIT'],
+                   kinds, {'SERIAL': [f'2 before 3 : 2.1 read {tables[0]} 1.1.1 at 1, 3 wrote it as 3',
+                                      f'3 before 2 : 3.1 read {tables[1]} 1.1.2 at 1, 2 wrote it as 2']})
 
 
 CASES = [
@@ -36,12 +59,12 @@ CASES = [
          $$ BEGIN INSERT INTO history VALUES (OLD.id, OLD.bal); RETURN NEW; END $$;
          CREATE TRIGGER keep BEFORE UPDATE ON acct FOR EACH ROW EXECUTE FUNCTION keep();""",
          ['UPDATE acct SET bal = bal - 30 WHERE id < 3', NEXT],
-         'patched, patched'),
+         'patched, patched', unsaid=2),
     Case('a trigger changes the row', ACCOUNTS + """
          CREATE FUNCTION round() RETURNS trigger LANGUAGE plpgsql AS $$ BEGIN NEW.bal := NEW.bal / 10 * 10; RETURN NEW; END $$;
          CREATE TRIGGER round BEFORE UPDATE ON acct FOR EACH ROW EXECUTE FUNCTION round();""",
          ['UPDATE acct SET bal = bal + 5', NEXT],
-         'patched, patched'),
+         'patched, patched', unsaid=2),
     Case('a rule writes another table', ACCOUNTS + HISTORY + """
          CREATE RULE keep AS ON UPDATE TO acct DO ALSO INSERT INTO history VALUES (OLD.id, OLD.bal);""",
          ['UPDATE acct SET bal = bal - 30 WHERE id = 2', NEXT],
@@ -59,11 +82,11 @@ CASES = [
          ['BEGIN', 'INSERT INTO child VALUES (20, 9)', 'COMMIT', 'INSERT INTO child VALUES (21, 2)'],
          'rolled back, same'),
     Case('a DO block writes', ACCOUNTS, ['DO $$ BEGIN UPDATE acct SET bal = 0 WHERE id = 3; END $$', NEXT],
-         'patched, same'),
+         'patched, same', unsaid=1),
     Case('a function writes', ACCOUNTS + """
          CREATE FUNCTION pay(integer) RETURNS integer LANGUAGE sql AS $$ UPDATE acct SET bal = bal - $1 RETURNING bal $$;""",
          ['SELECT pay(5)', 'BEGIN', 'SELECT pay(5)', NEXT, 'COMMIT'],
-         'patched, patched'),
+         'patched, patched', unsaid=2),
     Case('tables are truncated', ACCOUNTS + HISTORY,
          ['INSERT INTO history VALUES (1, 1)', 'TRUNCATE history, acct', 'INSERT INTO acct VALUES (1, 5)', NEXT],
          'same, same, same, same'),
@@ -176,6 +199,7 @@ CASES = [
          'same, same',
          {'SAW 2 AFTER 1 SELECT bal FROM acct WHERE id = 1': ['100'], 'SAW 3 AFTER 1 SELECT bal FROM acct WHERE id = 1': ['120'],
           'SERIAL': ['1', '2', '3']}),
+    *write_skews(),
     Case('a column comes', ACCOUNTS, [NEXT, 'ALTER TABLE acct ADD COLUMN note TEXT', "UPDATE acct SET note = 'new' WHERE id = 2", NEXT],
          'same, not covered, patched, patched'),
 ]
@@ -185,6 +209,8 @@ def check(window, found, case, gprom):
     """What is wrong: other verdicts or answers than the case expects."""
     kinds = ', '.join(verdict.kind() for verdict in found.verdicts)
     wrong = [] if kinds == case.expected else [f'expected {case.expected}; found {kinds}']
+    if (match := UNSAID.search(found.summary)) and int(match[1]) != case.unsaid or not match and case.unsaid:
+        wrong.append(f'expected {case.unsaid} reads that cannot be said; verify: {found.summary}')
     for question, (_, lines) in zip(case.answers, ask(gprom, window.path('out.dump'), case.answers)):
         if lines != case.answers[question]:
             wrong.append(f'{question}: expected {case.answers[question]}; found {lines}')

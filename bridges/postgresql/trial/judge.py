@@ -37,6 +37,7 @@ class Judgement:
     verdicts: list[Verdict] = field(default_factory=list)
     failures: list[str] = field(default_factory=list)
     narrowed: int = 0
+    summary: str = ''                                   # the last line of `verify`
 
     def counts(self):
         """How many transactions got each verdict, and how many statements were narrowed."""
@@ -46,8 +47,8 @@ class Judgement:
 def judge(window, gprom):
     """Converts and verifies a window. A failure is a line that says what is not as it has to be."""
     left = convert(window)
-    verdicts = verify(window, gprom)
-    found = Judgement(verdicts, narrowed=sum('narrowed' in line for line in left))
+    verdicts, summary = verified(window, gprom)
+    found = Judgement(verdicts, summary=summary, narrowed=sum('narrowed' in line for line in left))
     found.failures += [line for line in left if MISSING in line]
     found.failures += [str(verdict) for verdict in verdicts if verdict.verdict == 'differs']
     times = collections.Counter(verdict.xid for verdict in verdicts)
@@ -66,6 +67,11 @@ def convert(window, log='log.csv', out='out'):
 
 def verify(window, gprom, out='out'):
     """Runs `verify`, and gives its verdicts."""
+    return verified(window, gprom, out)[0]
+
+
+def verified(window, gprom, out='out'):
+    """Runs `verify`, and gives its verdicts and its last line."""
     *lines, last = call([f'{HERE}/verify', window.path(out), *common(window), '--gprom', gprom], (0, 1))
     if last.split()[0] != str(len(lines)):
         raise RuntimeError(f'verify counts wrongly: {len(lines)} lines, {last}')
@@ -75,7 +81,7 @@ def verify(window, gprom, out='out'):
             raise RuntimeError(f'verify says: {line}')
         number, log_line, xid, fate, verdict, reason = found.groups()
         verdicts.append(Verdict(number, int(log_line), xid, fate, verdict, reason or ''))
-    return verdicts
+    return verdicts, last
 
 
 def common(window):
