@@ -51,7 +51,7 @@ def record(cluster, window, setup, work):
     tables = [Table(name, quoted, columns_of(control, quoted)) for name, quoted in control.execute(TABLES).rows]
     for table in tables:
         control.execute(f'ALTER TABLE {table.quoted} REPLICA IDENTITY FULL')
-        rows = control.execute(f"COPY {table.quoted} TO STDOUT WITH (FORMAT csv, HEADER, NULL '\\N')").copied
+        rows = control.execute(f"COPY (SELECT * FROM {table.quoted}) TO STDOUT WITH (FORMAT csv, HEADER, NULL '\\N')").copied
         if rows.count(b'\n') > 1:
             window.started.append(table.name)
             window.save(f'{table.name}.csv', rows)
