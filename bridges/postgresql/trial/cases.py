@@ -140,10 +140,16 @@ CASES = [
          ['UPDATE "Order" SET café = café + 1 WHERE "from" = 1', 'DELETE FROM public."Order" WHERE "to Do" = \'y\''],
          'same, same'),
     Case('texts beyond the limits', """
-         CREATE TABLE paper (id INTEGER PRIMARY KEY, body TEXT, n INTEGER); INSERT INTO paper VALUES (1, 'short', 0);""",
+         CREATE TABLE paper (id INTEGER PRIMARY KEY, body TEXT, n INTEGER); INSERT INTO paper VALUES (1, 'short', 0), (9, repeat('long ', 60), 0);""",
          ["INSERT INTO paper VALUES (2, repeat('long ', 100), 0), (3, E'two\\nlines', 0)", 'UPDATE paper SET n = n + 1',
-          "INSERT INTO paper VALUES (4, $$it's ü \\n$$, 0), (5, '', NULL)", "DELETE FROM paper WHERE body = ''"],
-         'patched, patched, same, same'),
+          "INSERT INTO paper VALUES (4, $$it's ü \\n$$, 0), (5, '', NULL)", "DELETE FROM paper WHERE body = ''",
+          f"UPDATE paper SET n = 5 WHERE body = '{'long ' * 60}'", "UPDATE paper SET n = 6 WHERE body IN (E'two\\nlines', E'two lines')",
+          f"UPDATE paper SET n = 7 WHERE body > '{'long ' * 60}'", f"INSERT INTO paper VALUES (6, '{'other ' * 60}', 1)",
+          'UPDATE paper SET body = body || n WHERE id = 9',
+          "INSERT INTO paper VALUES (7, (SELECT string_agg(md5(n::text), ' ') FROM generate_series(1, 300) n), 0)",
+          'UPDATE paper SET n = n + 1 WHERE id = 7'],
+         'same, same, same, same, same, same, patched, same, patched, patched, same',
+         {'AS OF 6 SELECT id, n FROM paper WHERE n = 5': ['9, 5'], 'AS OF 7 SELECT id FROM paper WHERE n = 6': ['3']}),
     Case('numbers beyond the limits', """
          CREATE TABLE amount (id INTEGER PRIMARY KEY, n NUMERIC, r DOUBLE PRECISION, p NUMERIC(6,2), i BIGINT);
          INSERT INTO amount VALUES (1, 1.5, 0.1, 10.05, 9223372036854775807);""",

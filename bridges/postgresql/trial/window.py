@@ -1,4 +1,5 @@
 """A window of a server's life: what a user keeps of it for `convert`, and what the tables have at its end."""
+import hashlib
 import os
 from dataclasses import dataclass, field
 
@@ -71,17 +72,23 @@ def columns_of(control, table):
 
 
 def rows_of(control, table):
-    """The rows of a table as gprom prints them, in order, without those that no table of gprom can hold.
+    """The rows of a table as gprom prints them, in order.
 
     How a value is written in gprom is said once more here, as a check of what `convert` says.
     """
     rows = control.execute(f"SELECT {', '.join(column.name for column in table.columns)} FROM {table.quoted}").rows
-    return sorted(', '.join(map(cell_of, row, table.columns)) for row in rows if all(map(fits, row)))
+    return sorted(', '.join(map(cell_of, row, table.columns)) for row in rows)
 
 
 def fits(cell):
     """Whether a text of gprom can hold this."""
-    return cell is None or len(cell.encode()) <= 255 and all(' ' <= character != '\x7f' for character in cell)
+    return len(cell.encode()) <= 255 and all(' ' <= character and not '\x7f' <= character < '\xa0' for character in cell)
+
+
+def digest_of(cell):
+    """What stands for a text that does not fit."""
+    head = ''.join(character if fits(character) else ' ' for character in cell).encode()[:100].decode(errors='ignore')
+    return f'{head} .. [{len(cell)} characters, sha256 {hashlib.sha256(cell.encode()).hexdigest()[:32]}]'
 
 
 def cell_of(cell, column):
@@ -94,4 +101,4 @@ def cell_of(cell, column):
         return str(int(cell.replace('.', '')))
     if column.type == 'boolean':
         return '1' if cell == 't' else '0'
-    return "'" + cell.replace("'", "''") + "'"
+    return "'" + (cell if fits(cell) else digest_of(cell)).replace("'", "''") + "'"
