@@ -56,6 +56,7 @@ class Transaction:
     version: int = 0                # how many commits stand before its BEGIN
     settled: bool = False           # its statements write the rows of the slot where they stand
     literals: list = field(default_factory=list)        # statements of its row images, which stand in the place of all its steps
+    rewritten: int = 0              # row versions that its patches make besides those of the images
     savepoints: list = field(default_factory=list)      # (name, how many steps stand before it)
     unsaid: list = field(default_factory=list)          # (log line, reason) of reads that are not in the script
     exact: bool = False             # its snapshots are known
@@ -84,3 +85,12 @@ class Transaction:
         """Whether one of its statements is of these tables, or of any."""
         names = {step.statement.table if step.statement else step.target.table for step in self.writes()}
         return bool(names & (tables | {''}))
+
+
+def reaction(step, tables):
+    """What else a statement of gprom may have set off on the server, or ''. Foreign keys write where rows are deleted, or their keys change."""
+    table, statement = tables[step.statement.table], step.statement
+    if table.reacts and not table.rewrites and not (
+            statement.kind == 'delete' or statement.kind == 'update' and {name for name, _ in statement.sets} & set(table.key)):
+        return ''
+    return table.reacts
