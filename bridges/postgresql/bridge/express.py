@@ -16,7 +16,7 @@ class Expressed:
     statements: list[Statement] = field(default_factory=list)
     notes: list[str] = field(default_factory=list)          # what they do not say in full
     reason: str = ''
-    looks: list[Statement] = field(default_factory=list)    # SELECTs that stand for what an inexpressible one looked at
+    looks: list[Statement] = field(default_factory=list)    # SELECTs that stand for what the statements do not look at themselves
     unsaid: list[str] = field(default_factory=list)         # why other reads of it cannot be said
     target: Target = field(default_factory=Target)          # which row images may be its own
     only_reads: bool = False                                # it writes nothing, but for the functions that it calls
@@ -28,7 +28,11 @@ def express(node, tables, parameters, reason=''):
     if not reason:
         translator = Translator(tables, parameters)
         try:
-            return Expressed(translator.statements(node), translator.notes)
+            found = Expressed(translator.statements(node), translator.notes)
+            if translator.looks_further:
+                looks = Looks(tables, parameters).of(node)
+                found.looks, found.unsaid = looks.made, looks.unsaid
+            return found
         except NotCovered as error:
             reason = str(error)
     functions = [part.funcname[-1].sval for part in walk(node) if isinstance(part, ast.FuncCall)]

@@ -19,6 +19,7 @@ class Step:
     narrowed: bool = False          # to the rows that the slot shows
     filled: bool = False            # with values that the server computed
     literals: list = None           # statements of its row images, which stand in its place
+    parts: list = None              # of a statement that is deferred: the statements that it is
     seen: int = None                # of a capture: how many commits its snapshot sees
     until: int = None               # of a capture: how many the newest test of its rows may have seen
     rows: int = None                # of a capture: how many rows it gave or wrote
@@ -32,7 +33,7 @@ class Step:
     @property
     def locks(self):
         """Whether it locks rows that are there. Then it may wait for their writers, and goes on with the rows as they left them."""
-        return self.statement is not None and (self.statement.kind in ('update', 'delete') or self.statement.locks or self.shares)
+        return self.statement is not None and (self.statement.kind in ('update', 'delete', 'upsert') or self.statement.locks or self.shares)
 
 
 @dataclass
