@@ -17,6 +17,8 @@ from typing import IO
 
 # How long one call may take, in seconds. A question about a change of the past takes as long as the script took to run.
 PATIENCE = 600.0
+# Questions that a program may not have yet, each with a fault behind its words: a program that has it finds this one, and no earlier one.
+PROBES = {"ANOMALIES": ("ANOMALIES x", 11), "AFFECTED": ("AFFECTED BY x", 13), "UNDO": ("WHATIF UNDO x", 13)}
 REFUSAL = re.compile(r"E\d\d ")
 _BLOCK = re.compile(r"(\d+) (.*)", re.S)
 
@@ -69,6 +71,7 @@ class Job:
                 process.kill()
 
     def check(self) -> None:
+        """Raises Stopped where nobody waits any more. No call runs with the job then."""
         with self._lock:
             self._process = None
             if self._stopped:
@@ -150,13 +153,26 @@ class Program:
         self.words, self.patience = list(words), patience
         # The questions and the calls so far, for those who look after the cost.
         self.asked = self.calls = 0
+        self._known: frozenset[str] | None = None
+
+    def knows(self, question: str) -> bool:
+        """Whether the program has a question of PROBES, by what it says of it over the dump of no history."""
+        if self._known is None:
+            with tempfile.TemporaryDirectory(prefix="gprom-") as folder:
+                script, dump = Path(folder) / "none", Path(folder) / "none.dump"
+                script.touch()
+                self.run(script, dump)
+                answers = self.ask(dump, [text for text, _ in PROBES.values()])
+            found = (name for (name, (_, column)), answer in zip(PROBES.items(), answers) if answer.head == f"E03 syntax fault at column {column}")
+            self._known = frozenset(found)
+        return question in self._known
 
     def version(self) -> str:
         return self.text(["version"]).strip()
 
     def run(self, script: Path, dump: Path, job: Job | None = None) -> list[Reply]:
         """Runs a script, and writes its dump."""
-        blocks = self._blocks(["run", _path(script), _path(dump)], None, job or Job())
+        blocks = self._blocks(["run", _path(script), _path(dump)], None, job or Job(), None)
         return [Reply(number, head, lines) for number, head, lines, _ in blocks]
 
     def ask(self, dump: Path, questions: Sequence[str], job: Job | None = None, most: Sequence[int | None] = ()) -> list[Answer]:
@@ -176,6 +192,7 @@ class Program:
             asked.write("".join(f"{question}\n" for question in questions).encode())
             asked.seek(0)
             blocks = self._blocks(["ask", _path(dump), "-"], asked, job, most)
+        job.done += bool(blocks)
         if [number for number, *_ in blocks] != list(range(1, len(questions) + 1)):
             raise ProgramError(1, f"{self.words[0]} answered {len(blocks)} of {len(questions)} questions: is it gprom?")
         return [Answer(question, head, lines, cut) for question, (_, head, lines, cut) in zip(questions, blocks)]
@@ -186,9 +203,9 @@ class Program:
         self._call(arguments, None, job or Job(), printed.append)
         return "\n".join([*printed, ""]) if printed else ""
 
-    def _blocks(self, arguments: Sequence[str], asked: IO[bytes] | None, job: Job, most: Sequence[int | None] = ()) -> list[tuple[int, str, tuple[str, ...], int]]:
-        """Numbered first lines, each with the lines below it and how many of these were left out."""
-        reader = _Reader(job, most)
+    def _blocks(self, arguments: Sequence[str], asked: IO[bytes] | None, job: Job, most: Sequence[int | None] | None) -> list[tuple[int, str, tuple[str, ...], int]]:
+        """Numbered first lines, each with the lines below it and how many of these were left out. Blocks of questions are counted while they come."""
+        reader = _Reader(job if most is not None else None, most or ())
         self._call(arguments, asked, job, reader.take)
         return list(reader.blocks())
 
@@ -235,7 +252,7 @@ class Program:
 class _Reader:
     """Takes the lines of numbered blocks, and counts the blocks for who waits. A line that is none is a message of a call that fails."""
 
-    def __init__(self, job: Job, most: Sequence[int | None]):
+    def __init__(self, job: Job | None, most: Sequence[int | None]):
         self._job, self._most = job, most
         self._found: list[tuple[int, str, list[str]]] = []
         self._cut: list[int] = []
@@ -255,7 +272,8 @@ class _Reader:
             self._strange = self._strange or line
             return
         # What was under way is whole.
-        self._job.done += bool(self._found)
+        if self._job and self._found:
+            self._job.done += 1
         self._found.append((int(block[1]), block[2], []))
         self._cut.append(0)
 
