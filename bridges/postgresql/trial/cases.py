@@ -188,6 +188,27 @@ CASES = [
           'UPDATE paper SET n = n + 1 WHERE id = 7'],
          'same, same, same, same, same, same, same, same, patched, same, same',
          {'AS OF 6 SELECT id, n FROM paper WHERE n = 5': ['9, 5'], 'AS OF 7 SELECT id FROM paper WHERE n = 6': ['3']}),
+    Case('types that are compared by equality alone', """
+         CREATE TYPE duty AS ENUM ('on call', 'off', 'Off'); CREATE DOMAIN amount AS NUMERIC(8,2) CHECK (VALUE >= 0);
+         CREATE TABLE doctor (id INTEGER PRIMARY KEY, state duty DEFAULT 'off', code CHAR(4), mark BYTEA, rate DOUBLE PRECISION, pay amount, seen INET);
+         INSERT INTO doctor VALUES (1, 'on call', 'ab', '\\xAB01', 0.1, 10, '10.0.0.1'), (2, 'off', 'cd', '\\x00', 2.5, 20.5, '10.0.0.2');""",
+         ["UPDATE doctor SET state = 'Off' WHERE state = 'on call'", "INSERT INTO doctor (id, code, rate) VALUES (3, 'ab', 1e2), (4, 'x', 0.25)",
+          "UPDATE doctor SET rate = 3.0 WHERE code = 'ab  '", "UPDATE doctor SET pay = pay + 1.5 WHERE rate = 3", "DELETE FROM doctor WHERE state IN ('on call', 'Off')",
+          "UPDATE doctor SET state = 'on call'::duty WHERE state::text = 'off' AND rate <> 0.25", "UPDATE doctor SET code = 'new' WHERE mark = '\\x00'",
+          "UPDATE doctor SET code = 'old' WHERE state > 'on call'", "UPDATE doctor SET rate = rate * 2 WHERE id = 2",
+          "UPDATE doctor SET pay = 0 WHERE seen = '10.0.0.2'", "BEGIN", "INSERT INTO doctor VALUES (9, 'off', 'a', '\\x01', 1.5, 1.25, NULL)", 'ROLLBACK'],
+         'same, same, same, same, same, same, same, same, patched, same, rolled back',
+         {"AS OF 2 SELECT id FROM doctor WHERE state = 'Off'": ['1'], "AS OF 4 SELECT id, code FROM doctor WHERE rate = '3'": ["1, 'ab  '", "3, 'ab  '"],
+          "AS OF 7 SELECT id FROM doctor WHERE state = 'on call'": ['2', '3']}),
+    Case('names with the same beginning', """
+         CREATE TABLE a_name_of_more_than_thirty_characters_one (id INTEGER PRIMARY KEY, another_name_of_more_than_thirty_one INTEGER,
+                                                                 another_name_of_more_than_thirty_two INTEGER);
+         CREATE TABLE a_name_of_more_than_thirty_characters_two (id INTEGER PRIMARY KEY);
+         INSERT INTO a_name_of_more_than_thirty_characters_one VALUES (1, 2, 3);""",
+         ['UPDATE a_name_of_more_than_thirty_characters_one SET another_name_of_more_than_thirty_one = another_name_of_more_than_thirty_two',
+          'INSERT INTO a_name_of_more_than_thirty_characters_two SELECT id FROM a_name_of_more_than_thirty_characters_one',
+          'DELETE FROM a_name_of_more_than_thirty_characters_two'],
+         'same, same, same'),
     Case('numbers beyond the limits', """
          CREATE TABLE amount (id INTEGER PRIMARY KEY, n NUMERIC, r DOUBLE PRECISION, p NUMERIC(6,2), i BIGINT);
          INSERT INTO amount VALUES (1, 1.5, 0.1, 10.05, 9223372036854775807);""",

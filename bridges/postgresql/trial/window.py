@@ -5,8 +5,11 @@ from dataclasses import dataclass, field
 
 EVERYTHING = 'DROP SCHEMA public CASCADE; CREATE SCHEMA public'
 TABLES = "SELECT relname, oid::regclass FROM pg_class WHERE relkind = 'r' AND relnamespace = 'public'::regnamespace ORDER BY relname"
-COLUMNS = """SELECT quote_ident(attname), format_type(atttypid, NULL), CASE WHEN atttypmod > 0 THEN (atttypmod - 4) & 65535 END
-             FROM pg_attribute WHERE attrelid = '{table}'::regclass AND attnum > 0 AND NOT attisdropped ORDER BY attnum"""
+COLUMNS = """SELECT quote_ident(attname), format_type(base, NULL), CASE WHEN modifier > 0 THEN (modifier - 4) & 65535 END
+             FROM (SELECT attname, attnum, CASE typtype WHEN 'd' THEN typbasetype ELSE atttypid END AS base,
+                          CASE typtype WHEN 'd' THEN typtypmod ELSE atttypmod END AS modifier
+                   FROM pg_attribute JOIN pg_type ON pg_type.oid = atttypid
+                   WHERE attrelid = '{table}'::regclass AND attnum > 0 AND NOT attisdropped) AS found ORDER BY attnum"""
 INTEGERS = ('smallint', 'integer', 'bigint')
 
 
