@@ -50,7 +50,7 @@ def encoding_fault(path: Path) -> str | None:
     """What is wrong with the bytes that a script begins with, in words."""
     with path.open("rb") as file:
         begin = file.read(4096)
-    if begin[:2] in _MARKS or (len(begin) > 3 and begin[1::2].count(0) * 3 > len(begin)):
+    if begin[:2] in _MARKS or (len(begin) > 3 and begin.count(0) * 3 > len(begin)):
         return f"{path.name} is UTF-16: save it as UTF-8, since no line of it can be read"
     if begin.startswith(BOM):
         return f"{path.name} begins with a byte order mark, for which its first line is refused: save it as UTF-8 without a mark"
