@@ -209,6 +209,22 @@ CASES = [
           'INSERT INTO a_name_of_more_than_thirty_characters_two SELECT id FROM a_name_of_more_than_thirty_characters_one',
           'DELETE FROM a_name_of_more_than_thirty_characters_two'],
          'same, same, same'),
+    Case('numbers without a scale', """
+         CREATE TABLE reading (id INTEGER PRIMARY KEY, n NUMERIC, m NUMERIC DEFAULT 0.5, big NUMERIC);
+         INSERT INTO reading VALUES (1, 1.5, 2, 'NaN'), (2, 10, NULL, 1e20);""",
+         ['UPDATE reading SET n = n + 0.25 WHERE n < 9.5', 'UPDATE reading SET n = n * 2, m = 3', 'INSERT INTO reading (id, n) VALUES (3, -0.125)',
+          'DELETE FROM reading WHERE n = 20.00', 'UPDATE reading SET big = big + 1 WHERE id = 1', 'UPDATE reading SET m = m / 2 WHERE id = 3',
+          'BEGIN', 'UPDATE reading SET n = 0.1234567', 'ROLLBACK', 'UPDATE reading SET m = n WHERE n = -0.125'],
+         'same, same, same, same, patched, patched, not covered, same',
+         {'AS OF 3 SELECT id, n, m FROM reading': ['1, 3500, 3000', '2, 20000, 3000'], 'AS OF 4 SELECT n, m FROM reading WHERE id = 3': ['-125, 500']}),
+    Case('a table of many columns', f"""
+         CREATE TABLE wide (id INTEGER PRIMARY KEY, {', '.join(f'c{n} INTEGER DEFAULT {n}' for n in range(1, 22))}, note TEXT);
+         CREATE TABLE narrow (id INTEGER); INSERT INTO wide (id, note) VALUES (1, 'one'), (2, 'two');""",
+         ["UPDATE wide SET c21 = c21 + c20 WHERE note = 'one'", 'UPDATE wide SET c2 = 5 WHERE c18 > 3', 'INSERT INTO wide (id, c1, c18) VALUES (3, 7, 8)',
+          'UPDATE wide SET c3 = c4, c18 = 0 WHERE id = 3', 'INSERT INTO narrow SELECT c20 FROM wide WHERE c17 = 17', 'UPDATE wide SET c9 = c10 WHERE c11 = 11',
+          'UPDATE wide SET c13 = c14 WHERE c15 = 15 AND c16 = 16', 'SELECT c5, c6, c7, c8 FROM wide WHERE id = 1', 'DELETE FROM wide WHERE c18 = 0'],
+         'same, same, same, same, same, same, same, same, same',
+         {'AS OF 2 SELECT id, c21 FROM wide': ['1, 41', '2, 21'], 'AS OF 4 SELECT c18 FROM wide WHERE id = 3': ['8']}),
     Case('numbers beyond the limits', """
          CREATE TABLE amount (id INTEGER PRIMARY KEY, n NUMERIC, r DOUBLE PRECISION, p NUMERIC(6,2), i BIGINT);
          INSERT INTO amount VALUES (1, 1.5, 0.1, 10.05, 9223372036854775807);""",

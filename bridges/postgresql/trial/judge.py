@@ -5,6 +5,8 @@ import re
 import subprocess
 from dataclasses import dataclass, field
 
+from .window import LEFT_OUT
+
 HERE = os.path.dirname(os.path.dirname(os.path.abspath(__file__)))
 VERDICT = re.compile(r'transaction (\S+) \(log line (\d+), xid (\d*), ([a-z ]+)\): (same|not covered|differs)(?:: (.*))?')
 MISSING = 'records of this session are missing'         # in a line of OUT.left
@@ -129,9 +131,17 @@ def wrong_dump(window, gprom):
     last, tables = sum(' committed' in line for line in transactions), sorted(window.ended)
     wrong = []
     for table, (head, rows) in zip(tables, ask(gprom, dump, [f'AS OF {last} SELECT * FROM {table}' for table in tables])):
-        if head.startswith('rows') and sorted(rows) != window.ended[table]:
-            wrong.append(f'the last version of {table} differs: {difference(rows, window.ended[table])}')
+        theirs = window.ended[table].in_gprom(shape_of(window, table))
+        if head.startswith('rows') and sorted(rows) != sorted(theirs):
+            wrong.append(f'the last version of {table} differs: {difference(rows, theirs)}')
     return wrong
+
+
+def shape_of(window, table):
+    """What OUT.tsv says of the columns of a table: that one is left out, or how many decimals it has."""
+    with open(window.path('out.tsv'), encoding='utf-8') as file:
+        lines = [line.rstrip('\n').split('\t') for line in file if line.startswith('column\t')]
+    return {name: how if how == LEFT_OUT else int(decimals) for _, _, of, _, _, _, _, name, how, decimals in lines if of == table}
 
 
 def difference(ours, theirs):

@@ -1,7 +1,7 @@
 """A window of a server's life: what a user keeps of it for `convert`, and what the tables have at its end."""
 import hashlib
 import os
-from dataclasses import dataclass, field
+from dataclasses import dataclass, field, replace
 
 EVERYTHING = 'DROP SCHEMA public CASCADE; CREATE SCHEMA public'
 TABLES = "SELECT relname, oid::regclass FROM pg_class WHERE relkind = 'r' AND relnamespace = 'public'::regnamespace ORDER BY relname"
@@ -10,6 +10,7 @@ COLUMNS = """SELECT quote_ident(attname), format_type(base, NULL), CASE WHEN mod
                           CASE typtype WHEN 'd' THEN typtypmod ELSE atttypmod END AS modifier
                    FROM pg_attribute JOIN pg_type ON pg_type.oid = atttypid
                    WHERE attrelid = '{table}'::regclass AND attnum > 0 AND NOT attisdropped) AS found ORDER BY attnum"""
+LEFT_OUT = 'left out'                                   # said of a column in OUT.tsv
 INTEGERS = ('smallint', 'integer', 'bigint')
 
 
@@ -30,12 +31,28 @@ class Table:
 
 
 @dataclass
+class Ended:
+    """The rows of a table at the end, as the server prints their cells."""
+    columns: list[Column]
+    rows: list[tuple]
+
+    def in_gprom(self, shape):
+        """The rows as gprom prints them, where `shape` says of a column how many decimals it has, or that it is left out.
+
+        How a value is written in gprom is said once more here, as a check of what `convert` says.
+        """
+        kept = [(at, replace(column, decimals=shape.get(column.name, column.decimals))) for at, column in enumerate(self.columns)
+                if shape.get(column.name) != LEFT_OUT]
+        return [', '.join(cell_of(row[at], column) for at, column in kept) for row in self.rows]
+
+
+@dataclass
 class Window:
     """The files of a window, in a folder of its own."""
     folder: str
     level: str = 'read committed'                       # default_transaction_isolation of the server
     started: list[str] = field(default_factory=list)    # the tables that have rows when the window begins
-    ended: dict[str, list[str]] = field(default_factory=dict)    # the rows of each table at the end, unless it has other columns then
+    ended: dict[str, Ended] = field(default_factory=dict)    # the rows of each table at the end, unless it has other columns then
 
     def path(self, name):
         """A file of the window."""
@@ -75,12 +92,9 @@ def columns_of(control, table):
 
 
 def rows_of(control, table):
-    """The rows of a table as gprom prints them, in order.
-
-    How a value is written in gprom is said once more here, as a check of what `convert` says.
-    """
+    """The rows of a table."""
     rows = control.execute(f"SELECT {', '.join(column.name for column in table.columns)} FROM {table.quoted}").rows
-    return sorted(', '.join(map(cell_of, row, table.columns)) for row in rows)
+    return Ended(table.columns, rows)
 
 
 def fits(cell):
@@ -101,7 +115,8 @@ def cell_of(cell, column):
     if column.type in INTEGERS:
         return cell
     if column.type == 'numeric' and column.decimals is not None:
-        return str(int(cell.replace('.', '')))
+        whole, _, decimals = cell.partition('.')
+        return str(int(whole + decimals[:column.decimals].ljust(column.decimals, '0')))
     if column.type == 'boolean':
         return '1' if cell == 't' else '0'
     return "'" + (cell if fits(cell) else digest_of(cell)).replace("'", "''") + "'"
