@@ -1,8 +1,9 @@
 """Statements that gprom's dialect has no words for, and whose row images say what they did.
 
 An UPDATE or DELETE with a condition that gprom cannot express, such as a subquery, stands as one that names the rows that it wrote. An INSERT
-with ON CONFLICT stands as INSERT of the rows that were not there, and UPDATE of those that were. What an UPDATE computed stays a term, so
-it has to give the row images; a value that comes from elsewhere, such as from a trigger or another table, is taken from them.
+with ON CONFLICT stands as INSERT of the rows that were not there, and UPDATE of those that were; a COPY is an INSERT of its rows. What an
+UPDATE computed stays a term, so it has to give the row images; a value that comes from elsewhere, such as from a trigger or another table,
+is taken from them.
 """
 from dataclasses import dataclass, replace
 
@@ -27,7 +28,7 @@ def resolve(statement, table, rows, images, most=None, skips=False):
     `images` are (place, old row or None, new row or None), of which it takes `most`, or as many as it may have written: those in front, or
     any where it `skips` others.
     """
-    way = upsert if statement.kind == 'upsert' else chosen
+    way = {'upsert': upsert, 'insert': copied}.get(statement.kind, chosen)
     found = way(statement, table, rows, images, most, skips)
     return None if found is None or most not in (None, len(found.written)) or found.over_limit() else found
 
@@ -86,6 +87,19 @@ def narrowed(statement, table, given, olds, names):
         kept = [(column, term) for column, term in statement.sets if term is not HOLE]
         sets = kept + [(column, ('literal', cell)) for column, cell in given]
     return replace(statement, sets=sets, where=('and', statement.where, condition) if statement.where else condition, open='', free=frozenset())
+
+
+# COPY
+
+def copied(statement, table, rows, images, most, skips):
+    """An INSERT of the rows that a COPY brought."""
+    found = []
+    for place, old, new in images:
+        if len(found) == most or old is not None and not skips:
+            break
+        if old is None:
+            found.append((place, new))
+    return Resolved([(None, None, new) for _, new in found], inserts(table.name, [new for _, new in found]), [place for place, _ in found])
 
 
 # INSERT with ON CONFLICT

@@ -44,6 +44,7 @@ class Transaction:
     implicit: bool = False          # without BEGIN: the statements of one message, or of one pipeline
     virtual: str = ''               # its number in the backend
     steps: list = field(default_factory=list)
+    began: float = None             # when it began, which is now() in it
     started: float = None           # the first statement's start and end: a snapshot is taken in between
     first_end: float = None
     xid: str = '0'
