@@ -35,7 +35,17 @@ def take_pictures(folder: Path) -> None:
                         _wait(browser, text)
                         browser.picture(folder / f"{name}-{width}{'-dark' if dark else ''}.png")
                 if name in ("whatif", "audit"):
-                    (folder / f"{name}.pdf").write_bytes(browser.pdf())
+                    _print(browser, folder / f"{name}-print.png")
+
+
+def _print(browser: Browser, path: Path) -> None:
+    """The page as it goes on paper, by its rules for print."""
+    browser.call("Emulation.setEmulatedMedia", media="print")
+    browser.size(718, 900)
+    browser.ask("dispatchEvent(new Event('beforeprint'))")
+    browser.settle()
+    browser.picture(path)
+    browser.call("Emulation.setEmulatedMedia", media="")
 
 
 def _wait(browser: Browser, text: str) -> None:

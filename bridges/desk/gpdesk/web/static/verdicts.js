@@ -7,19 +7,19 @@ const LETTERS = "abcdefghijklmnopqrstuvwxyz";
 const MARKS = { good: "✓", bad: "✕", open: "?" };
 export const letter = (number) => LETTERS[number] || String(number + 1);
 
-function verdict(it, first) {
+function verdict(it, first, below) {
   return h("div", { class: "verdict " + it.mood }, h("span", { class: "sign", "aria-hidden": "true" }, MARKS[it.mood]),
     h("div", {}, h("p", {}, h("b", {}, it.title + ". "), it.sentences.slice(0, 1).map(sentence)),
       it.edges.length > 0 && h("ol", {}, it.edges.map((edge, number) => h("li", {}, h("span", { class: "letter" }, letter(first + number)), at(edge.a), " before ", at(edge.b), ": ", sentence(edge.says)))),
       it.order.length > 0 && it.order.length <= 30 && it.title.startsWith("As if") && h("p", { class: "soft" }, it.order.flatMap((number, place) => [place > 0 && " → ", at(number)])),
       it.edges.length === 0 && it.sentences.length > 1 && h("p", { class: "soft" }, it.sentences.slice(1).map((one) => [sentence(one), " "])),
-      it.question === "CHECK" && h("details", {}, h("summary", {}, "what CHECK does not vouch for"), h("ul", {}, it.open.map((text) => h("li", {}, text))))));
+      below, it.question === "CHECK" && h("details", {}, h("summary", {}, "what CHECK does not vouch for"), h("ul", {}, it.open.map((text) => h("li", {}, text))))));
 }
 
 // The least script in which a cycle stays.
 function smaller(question) {
   const place = h("div", {});
-  const button = h("button", { type: "button", class: "quiet reproduce", onclick: async () => {
+  const button = h("button", { type: "button", class: "reproduce", onclick: async () => {
     button.disabled = true;
     put(place, h("p", { class: "wait" }));
     const got = await call("reproduce", { text: question }, "reproduce", place);
@@ -48,8 +48,8 @@ export async function verdicts(desk) {
   if (!answer || answer.error) { failed(place, answer || { error: "" }); return []; }
   let first = 0;
   const bad = [...answer.verdicts].sort((a, b) => (b.mood === "bad") - (a.mood === "bad"));
-  const made = bad.map((it) => { const one = verdict(it, first); first += it.edges.length; return one; });
   const cycle = bad.find((it) => it.edges.length > 0);
-  put(place, made, desk.refusals > 0 && refused(desk), cycle && smaller(cycle.question));
+  const made = bad.map((it) => { const one = verdict(it, first, it === cycle && smaller(it.question)); first += it.edges.length; return one; });
+  put(place, made, desk.refusals > 0 && refused(desk));
   return bad.flatMap((it) => it.edges);
 }
