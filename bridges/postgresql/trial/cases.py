@@ -8,7 +8,7 @@ last version those of the server. `expected` says which, so that nothing gets wo
 import re
 from dataclasses import dataclass, field
 
-from .judge import ask
+from .judge import CAPTURE, ask
 from .protocol import ServerError
 
 ACCOUNTS = "CREATE TABLE acct (id INTEGER PRIMARY KEY, bal INTEGER); INSERT INTO acct VALUES (1, 100), (2, 50), (3, 7);"
@@ -34,6 +34,7 @@ class Case:
     expected: str = ''
     answers: dict[str, list[str]] = field(default_factory=dict)     # by the question, the lines under the first
     unsaid: int = 0                                     # reads of functions and triggers, which no log has, by the last line of `verify`
+    captured: str = ''                                  # what is expected by a capture, where that is other than by the log
 
 
 def write_skews():
@@ -59,7 +60,7 @@ CASES = [
          $$ BEGIN INSERT INTO history VALUES (OLD.id, OLD.bal); RETURN NEW; END $$;
          CREATE TRIGGER keep BEFORE UPDATE ON acct FOR EACH ROW EXECUTE FUNCTION keep();""",
          ['UPDATE acct SET bal = bal - 30 WHERE id < 3', NEXT],
-         'patched, patched', unsaid=2),
+         'patched, patched', unsaid=2, captured='same, same'),
     Case('a trigger changes the row', ACCOUNTS + """
          CREATE FUNCTION round() RETURNS trigger LANGUAGE plpgsql AS $$ BEGIN NEW.bal := NEW.bal / 10 * 10; RETURN NEW; END $$;
          CREATE TRIGGER round BEFORE UPDATE ON acct FOR EACH ROW EXECUTE FUNCTION round();""",
@@ -71,22 +72,22 @@ CASES = [
          'patched, patched'),
     Case('a DELETE cascades', PARENTS.format(rule='ON DELETE CASCADE'),
          ['DELETE FROM parent WHERE id = 1', "INSERT INTO child VALUES (13, 2)"],
-         'patched, same'),
+         'patched, same', captured='same, same'),
     Case('a DELETE sets references to NULL', PARENTS.format(rule='ON DELETE SET NULL'),
          ['BEGIN', 'DELETE FROM parent WHERE id = 1', 'UPDATE child SET id = id + 10 WHERE parent IS NULL', 'COMMIT'],
-         'patched'),
+         'patched', captured='same'),
     Case('an UPDATE cascades', PARENTS.format(rule='ON UPDATE CASCADE'),
          ['UPDATE parent SET id = 5 WHERE id = 1', 'DELETE FROM child WHERE parent = 5'],
-         'patched, same'),
+         'patched, same', captured='same, same'),
     Case('a constraint is deferred and fails', PARENTS.format(rule='DEFERRABLE INITIALLY DEFERRED'),
          ['BEGIN', 'INSERT INTO child VALUES (20, 9)', 'COMMIT', 'INSERT INTO child VALUES (21, 2)'],
          'rolled back, same'),
     Case('a DO block writes', ACCOUNTS, ['DO $$ BEGIN UPDATE acct SET bal = 0 WHERE id = 3; END $$', NEXT],
-         'patched, same', unsaid=1),
+         'patched, same', unsaid=1, captured='same, same'),
     Case('a function writes', ACCOUNTS + """
          CREATE FUNCTION pay(integer) RETURNS integer LANGUAGE sql AS $$ UPDATE acct SET bal = bal - $1 RETURNING bal $$;""",
          ['SELECT pay(5)', 'BEGIN', 'SELECT pay(5)', NEXT, 'COMMIT'],
-         'patched, patched', unsaid=2),
+         'patched, patched', unsaid=2, captured='same, same'),
     Case('tables are truncated', ACCOUNTS + HISTORY,
          ['INSERT INTO history VALUES (1, 1)', 'TRUNCATE history, acct', 'INSERT INTO acct VALUES (1, 5)', NEXT],
          'same, same, same, same'),
@@ -114,7 +115,7 @@ CASES = [
     Case('several statements in a message', ACCOUNTS,
          [f'{NEXT}; UPDATE acct SET bal = bal - 1 WHERE id = 2', f'BEGIN; {NEXT}; COMMIT',
           'DELETE FROM acct WHERE id = 3; SELECT 1 / 0', NEXT],
-         'same, same, same'),
+         'same, same, same', captured='same, same, rolled back, same'),
     Case('values of the server', """
          CREATE TABLE entry (id SERIAL PRIMARY KEY, made TIMESTAMPTZ DEFAULT now(), n INTEGER,
                              double INTEGER GENERATED ALWAYS AS (n * 2) STORED);""",
@@ -265,11 +266,11 @@ CASES = [
          ['EXPLAIN (ANALYZE, COSTS OFF) DELETE FROM acct WHERE id = 3', 'BEGIN',
           'DECLARE c CURSOR FOR SELECT * FROM acct ORDER BY id FOR UPDATE', 'FETCH 1 FROM c', 'UPDATE acct SET bal = 1 WHERE CURRENT OF c',
           'COMMIT', NEXT],
-         'patched, same, same'),
+         'patched, same, same', captured='same, same, same'),
     Case('rows are copied in, and two phases', ACCOUNTS,
          ["COPY acct FROM PROGRAM 'echo 8,80' WITH (FORMAT csv)", 'BEGIN', NEXT, "PREPARE TRANSACTION 'one'", "COMMIT PREPARED 'one'", NEXT,
           'BEGIN', NEXT, "PREPARE TRANSACTION 'two'", "ROLLBACK PREPARED 'two'", NEXT],
-         'same, patched, same, not covered, same'),
+         'same, patched, same, not covered, same', captured='same, same, same, rolled back, same'),
     Case('rows are copied in between others', ACCOUNTS,
          ['BEGIN', 'INSERT INTO acct VALUES (4, 40)', "COPY acct (id) FROM PROGRAM 'seq 5 7'", 'INSERT INTO acct VALUES (8, 80)', NEXT, 'COMMIT',
           'DELETE FROM acct WHERE bal IS NULL'],
@@ -288,7 +289,7 @@ CASES = [
     Case('tables come and go', ACCOUNTS,
          ['CREATE TABLE other AS SELECT * FROM acct', 'BEGIN', 'INSERT INTO other VALUES (1, 1)', NEXT, 'COMMIT',
           'CREATE TEMP TABLE mine (id INTEGER)', 'INSERT INTO mine VALUES (1)', 'DROP TABLE other', NEXT],
-         'patched, patched, not covered, not covered, not covered, same'),
+         'patched, patched, not covered, not covered, not covered, same', captured='patched, patched, same, not covered, same, same'),
     Case('rows are locked, and then read', ACCOUNTS,    # a SELECT that waited gives the newest rows
          ['BEGIN', 'SELECT bal FROM acct WHERE id = 1 FOR UPDATE', 'b: BEGIN', 'b: SELECT bal FROM acct WHERE id = 1 FOR UPDATE',
           'UPDATE acct SET bal = 120 WHERE id = 1', 'COMMIT', 'b: UPDATE acct SET bal = 150 WHERE id = 1', 'b: COMMIT'],
@@ -297,17 +298,19 @@ CASES = [
           'SERIAL': ['1', '2', '3']}),
     *write_skews(),
     Case('a column comes', ACCOUNTS, [NEXT, 'ALTER TABLE acct ADD COLUMN note TEXT', "UPDATE acct SET note = 'new' WHERE id = 2", NEXT],
-         'same, not covered, patched, patched'),
+         'same, not covered, patched, patched', captured='same, same, patched, patched'),
 ]
 
 
 def check(window, found, case, gprom):
     """What is wrong: other verdicts or answers than the case expects."""
     kinds = ', '.join(verdict.kind() for verdict in found.verdicts)
-    wrong = [] if kinds == case.expected else [f'expected {case.expected}; found {kinds}']
-    if (match := UNSAID.search(found.summary)) and int(match[1]) != case.unsaid or not match and case.unsaid:
-        wrong.append(f'expected {case.unsaid} reads that cannot be said; verify: {found.summary}')
-    for question, (_, lines) in zip(case.answers, ask(gprom, window.path('out.dump'), case.answers)):
+    by_capture = found.source is CAPTURE
+    expected, unsaid = by_capture and case.captured or case.expected, 0 if by_capture else case.unsaid
+    wrong = [] if kinds == expected else [f'expected {expected}; found {kinds}']
+    if (match := UNSAID.search(found.summary)) and int(match[1]) != unsaid or not match and unsaid:
+        wrong.append(f'expected {unsaid} reads that cannot be said; verify: {found.summary}')
+    for question, (_, lines) in zip(case.answers, ask(gprom, window.path(f'{found.source.out}.dump'), case.answers)):
         if lines != case.answers[question]:
             wrong.append(f'{question}: expected {case.answers[question]}; found {lines}')
     return wrong

@@ -13,6 +13,17 @@ MISSING = 'records of this session are missing'         # in a line of OUT.left
 PATCHED = 'patched'                                     # in the reason where the rows were taken from the write-ahead log
 
 
+@dataclass(frozen=True)
+class Source:
+    """What a script is made of: the log or the capture of a window, and the name of the files that `convert` makes of it."""
+    name: str
+    file: str
+    out: str
+
+
+LOG, CAPTURE = Source('the log', 'log.csv', 'out'), Source('the capture', 'capture.jsonl', 'captured')
+
+
 @dataclass
 class Verdict:
     """What `verify` says of a transaction."""
@@ -36,6 +47,7 @@ class Verdict:
 @dataclass
 class Judgement:
     """What was found of a window."""
+    source: Source
     verdicts: list[Verdict] = field(default_factory=list)
     failures: list[str] = field(default_factory=list)
     narrowed: int = 0
@@ -46,25 +58,32 @@ class Judgement:
         return collections.Counter(verdict.kind() for verdict in self.verdicts) + collections.Counter(narrowed=self.narrowed)
 
 
-def judge(window, gprom):
+def sources_of(window):
+    """What scripts can be made of."""
+    return [LOG, CAPTURE] if os.path.exists(window.path(CAPTURE.file)) else [LOG]
+
+
+def judge(window, gprom, source=LOG):
     """Converts and verifies a window. A failure is a line that says what is not as it has to be."""
-    left = convert(window)
-    verdicts, summary = verified(window, gprom)
-    found = Judgement(verdicts, summary=summary, narrowed=sum('narrowed' in line for line in left))
+    left = convert(window, source)
+    verdicts, summary = verified(window, gprom, source.out)
+    found = Judgement(source, verdicts, summary=summary, narrowed=sum('narrowed' in line for line in left))
     found.failures += [line for line in left if MISSING in line]
     found.failures += [str(verdict) for verdict in verdicts if verdict.verdict == 'differs']
     times = collections.Counter(verdict.xid for verdict in verdicts)
     found.failures += [f'xid {xid} has {times[xid]} verdicts' for xid in commits_of(window) if times[xid] != 1]
-    found.failures += wrong_dump(window, gprom)
+    found.failures += wrong_dump(window, gprom, source)
     return found
 
 
-def convert(window, log='log.csv', out='out'):
+def convert(window, source=LOG, file=None, out=None):
     """Runs `convert` on the window, as a user would. Gives the lines of OUT.left."""
     rows = [word for table in window.started for word in ('--rows', f'{table}={window.path(table)}.csv')]
-    call([f'{HERE}/convert', window.path(log), window.path(out), *common(window), *rows, '--level', window.level], (0,))
-    with open(window.path(f'{out}.left'), encoding='utf-8') as file:
-        return file.read().split('\n')[:-1]
+    file, out = window.path(file or source.file), window.path(out or source.out)
+    words = ['--capture', file, out] if source is CAPTURE else [file, out, '--level', window.level]
+    call([f'{HERE}/convert', *words, *common(window), *rows], (0,))
+    with open(f'{out}.left', encoding='utf-8') as opened:
+        return opened.read().split('\n')[:-1]
 
 
 def verify(window, gprom, out='out'):
@@ -122,9 +141,9 @@ def ask(gprom, dump, questions):
     return answers
 
 
-def wrong_dump(window, gprom):
+def wrong_dump(window, gprom, source):
     """What is wrong with the dump: it is not that of a history, or its last version has other rows than the server."""
-    dump = window.path('out.dump')
+    dump = window.path(f'{source.out}.dump')
     (check, _), (_, transactions) = ask(gprom, dump, ['CHECK', 'TRANSACTIONS'])
     if check != 'history':
         return [f'CHECK of the dump: {check}']

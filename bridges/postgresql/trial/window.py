@@ -77,10 +77,15 @@ def record(cluster, window, setup, work):
             window.started.append(table.name)
             window.save(f'{table.name}.csv', rows)
     window.save('tables.sql', cluster.command('pg_dump', '-h', cluster.folder, '-U', 'postgres', '--schema-only', 'postgres'))
+    cluster.wait_for_sessions()
     cluster.take_changes()
     cluster.take_log('the window begins')
+    cluster.take_capture()
     work(cluster)
+    cluster.wait_for_sessions()
     window.save('log.csv', cluster.take_log('the window ends'))
+    if captured := cluster.take_capture():
+        window.save('capture.jsonl', captured)
     window.save('slot.txt', cluster.take_changes())
     window.ended = {table.name: rows_of(control, table) for table in tables if columns_of(control, table.quoted) == table.columns}
 

@@ -5,6 +5,7 @@ import threading
 import time
 from dataclasses import dataclass
 
+from .given import Given, together
 from .protocol import ServerError
 
 SESSIONS = 8
@@ -50,6 +51,14 @@ READS = (
     "SELECT name FROM item ORDER BY id LIMIT {k}",
     "SELECT max(amount) FROM note",
 )
+MORE_READS = (                                          # of the windows whose reads matter most
+    "SELECT * FROM acct WHERE id = {k}",
+    "SELECT id, owner, bal FROM acct",
+    "SELECT id, qty FROM item WHERE qty > {k}",
+    "SELECT who, amount FROM note",
+    "SELECT id, owner FROM acct WHERE bal > {j}0 FOR UPDATE",
+    "SELECT id, qty FROM item FOR SHARE",
+)
 NOT_COVERED = (
     "UPDATE acct SET bal = bal / 2 WHERE id = {k}",
     "INSERT INTO item (id, qty) VALUES ({k}, 1) ON CONFLICT (id) DO UPDATE SET qty = item.qty + 1",
@@ -70,6 +79,7 @@ class Settings:
     seed: int
     level: str | None
     transactions: int
+    more_reads: float = 0.0                             # this share of the statements are SELECTs more
 
 
 class Session(threading.Thread):
@@ -77,7 +87,7 @@ class Session(threading.Thread):
 
     def __init__(self, connection, number, settings):
         super().__init__()
-        self.connection, self.settings = connection, settings
+        self.connection, self.settings, self.given = connection, settings, Given(number)
         self.random = random.Random(settings.seed * SESSIONS + number)
         self.new = (settings.seed * SESSIONS + number) % 1000 * 1000
         self.fault = None
@@ -130,7 +140,10 @@ class Session(threading.Thread):
     def statement(self, share=0.3):
         """A random statement and its parameters. This share of the statements has parameters, the others have values."""
         self.new += 1
-        text = self.random.choice(self.random.choices((WRITES, READS, NOT_COVERED), (70, 27, 3))[0])
+        texts = self.random.choices((WRITES, READS, NOT_COVERED), (70, 27, 3))[0]
+        if self.settings.more_reads and self.random.random() < self.settings.more_reads:
+            texts = READS + MORE_READS
+        text = self.random.choice(texts)
         values = {'k': self.random.randint(1, 4), 'j': self.random.randint(2, 9), 'new': 100 + self.new,
                   'cents': f'{self.random.randint(1, 30)}.{self.random.randint(0, 99):02}'}
         parameters = []
@@ -143,11 +156,8 @@ class Session(threading.Thread):
     def execute(self, text, *parameters):
         """Whether the server took a statement."""
         try:
-            if parameters and self.random.random() < 0.5:
-                self.connection.send_prepared(text, *parameters)
-            else:
-                self.connection.send(text, *parameters)
-            self.connection.receive()
+            prepared = bool(parameters) and self.random.random() < 0.5
+            self.given.execute(self.connection, text, *parameters, prepared=prepared)
             return True
         except ServerError:
             return False
@@ -155,13 +165,14 @@ class Session(threading.Thread):
             time.sleep(self.random.choice((0, 0, 0.001, 0.004)))
 
 
-def run(cluster, settings):
-    """Runs the sessions of a workload beside each other, to their ends."""
+def run(cluster, settings, given):
+    """Runs the sessions of a workload beside each other, to their ends. What they read goes to `given`."""
     sessions = [Session(cluster.connect(), number, settings) for number in range(SESSIONS)]
     for session in sessions:
         session.start()
     for session in sessions:
         session.join()
+    given.update(together(sessions))
     if fault := next((session.fault for session in sessions if session.fault), None):
         raise fault
 
