@@ -86,17 +86,27 @@ command_of(QueryDesc *query)
 	}
 }
 
+/* Whether a statement may wait for other transactions and then go on with what they left: under READ COMMITTED it reads two versions. */
+static bool
+tests_rows_again(QueryDesc *query)
+{
+	Plan	   *top = query->plannedstmt->planTree;
+
+	if (IsolationUsesXactSnapshot())
+		return false;
+	if (query->operation == CMD_INSERT)
+		return IsA(top, ModifyTable) && ((ModifyTable *) top)->onConflictAction != ONCONFLICT_NONE;
+	return query->operation != CMD_SELECT || query->plannedstmt->rowMarks != NIL;
+}
+
 /* The fields of a planned statement. */
 static void
 append_query(Entry *entry, QueryDesc *query)
 {
-	PlannedStmt *plan = query->plannedstmt;
-	bool		marks = plan->rowMarks != NIL;
-
 	appendStringInfo(&entry->head, ",\"o\":\"%s\"", command_of(query));
-	append_plan(&entry->head, plan);
-	entry->locks = !IsolationUsesXactSnapshot() && (marks || (query->operation != CMD_SELECT && query->operation != CMD_INSERT));
-	if (marks && query->operation == CMD_SELECT)
+	append_plan(&entry->head, query->plannedstmt);
+	entry->locks = tests_rows_again(query);
+	if (query->plannedstmt->rowMarks != NIL && query->operation == CMD_SELECT)
 		appendStringInfoString(&entry->head, ",\"l\":1");
 }
 
@@ -238,14 +248,15 @@ has_captured_transaction(void)
 	return local_xid != InvalidLocalTransactionId;
 }
 
-/* Writes how a transaction ended. */
+/* Writes how a transaction ended. `T` is its time, which now() gives. */
 void
 end_transaction(const char *kind)
 {
 	StringInfo	out = begin_line();
 
 	append_head(out, kind, ++counter);
-	appendStringInfo(out, ",\"X\":%u,\"z\":" INT64_FORMAT ",\"pid\":%d%s}", GetTopTransactionIdIfAny(), GetCurrentTimestamp(), MyProcPid, names);
+	appendStringInfo(out, ",\"X\":%u,\"T\":" INT64_FORMAT ",\"z\":" INT64_FORMAT ",\"pid\":%d%s}", GetTopTransactionIdIfAny(),
+					 GetCurrentTransactionStartTimestamp(), GetCurrentTimestamp(), MyProcPid, names);
 	end_line();
 	flush_lines();
 	local_xid = InvalidLocalTransactionId;

@@ -28,7 +28,7 @@ typedef struct Entry
 	SubTransactionId sub;
 	uint64		rows;
 	int			error;			/* the SQLSTATE that ended it, or 0 */
-	bool		locks;			/* tests its rows again in their newest version: UPDATE, DELETE, MERGE, FOR UPDATE under READ COMMITTED */
+	bool		locks;			/* may wait, and then tests its rows again in their newest version */
 	bool		finishing;		/* its AFTER triggers run */
 	bool		partial;		/* its reader stopped before its last row, as far as is known */
 	StringInfoData head;		/* the fields that are known when it begins */

@@ -150,15 +150,15 @@ def wrong_dump(window, gprom, source):
     last, tables = sum(' committed' in line for line in transactions), sorted(window.ended)
     wrong = []
     for table, (head, rows) in zip(tables, ask(gprom, dump, [f'AS OF {last} SELECT * FROM {table}' for table in tables])):
-        theirs = window.ended[table].in_gprom(shape_of(window, table))
+        theirs = window.ended[table].in_gprom(shape_of(window, table, source))
         if head.startswith('rows') and sorted(rows) != sorted(theirs):
             wrong.append(f'the last version of {table} differs: {difference(rows, theirs)}')
     return wrong
 
 
-def shape_of(window, table):
+def shape_of(window, table, source):
     """What OUT.tsv says of the columns of a table: that one is left out, or how many decimals it has."""
-    with open(window.path('out.tsv'), encoding='utf-8') as file:
+    with open(window.path(f'{source.out}.tsv'), encoding='utf-8') as file:
         lines = [line.rstrip('\n').split('\t') for line in file if line.startswith('column\t')]
     return {name: how if how == LEFT_OUT else int(decimals) for _, _, of, _, _, _, _, name, how, decimals in lines if of == table}
 

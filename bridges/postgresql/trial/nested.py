@@ -56,7 +56,7 @@ CREATE TABLE x AS SELECT * FROM parent
 TRUNCATE hist
 """.strip().split('\n')
 NAME = 'statements inside of others'
-SAME, PATCHED = 15, 4
+SAME, PATCHED = 13, 3
 
 
 def run(cluster):
