@@ -275,6 +275,16 @@ CASES = [
          ['BEGIN', 'INSERT INTO acct VALUES (4, 40)', "COPY acct (id) FROM PROGRAM 'seq 5 7'", 'INSERT INTO acct VALUES (8, 80)', NEXT, 'COMMIT',
           'DELETE FROM acct WHERE bal IS NULL'],
          'same, same', {'AS OF 2 SELECT id FROM acct WHERE id > 3': ['4', '5', '6', '7', '8']}),
+    Case('partitions are one table', """
+         CREATE TABLE sale (id INTEGER, at DATE, n INTEGER, PRIMARY KEY (id, at)) PARTITION BY RANGE (at);
+         CREATE TABLE sale_1 PARTITION OF sale FOR VALUES FROM ('2026-01-01') TO ('2026-02-01');
+         CREATE TABLE sale_2 (n INTEGER, id INTEGER NOT NULL, at DATE NOT NULL); ALTER TABLE sale ATTACH PARTITION sale_2 DEFAULT;
+         INSERT INTO sale VALUES (1, '2026-01-05', 10), (2, '2026-02-05', 20);""",
+         ["INSERT INTO sale VALUES (3, '2026-01-20', 30), (4, '2026-03-01', 40)", 'UPDATE sale SET n = n + 1 WHERE id > 1', 'UPDATE sale_1 SET n = 0',
+          "INSERT INTO sale_2 (id, at, n) VALUES (5, '2026-05-05', 50)", 'SELECT * FROM sale_2', "UPDATE sale SET at = '2026-02-02' WHERE id = 1",
+          'DELETE FROM sale WHERE n = 41', 'BEGIN', 'TRUNCATE sale', "INSERT INTO sale VALUES (6, '2026-01-01', 60)", 'COMMIT'],
+         'same, same, same, same, same, patched, same, same',
+         {'AS OF 4 SELECT id, n FROM sale': ['1, 0', '2, 21', '3, 0', '4, 41'], 'AS OF 9 SELECT * FROM sale': ["6, '2026-01-01', 60"]}),
     Case('terms of constants', """
          CREATE TABLE task (id INTEGER PRIMARY KEY, n INTEGER, name TEXT, due TIMESTAMPTZ, day DATE);
          INSERT INTO task VALUES (1, 7, 'ab', now() - interval '1 day', '2026-03-01'), (2, 9, 'AB', now() + interval '1 day', '2026-03-08'),

@@ -4,7 +4,9 @@ import os
 from dataclasses import dataclass, field, replace
 
 EVERYTHING = 'DROP SCHEMA public CASCADE; CREATE SCHEMA public'
-TABLES = "SELECT relname, oid::regclass FROM pg_class WHERE relkind = 'r' AND relnamespace = 'public'::regnamespace ORDER BY relname"
+TABLES = """SELECT relname, oid::regclass FROM pg_class
+            WHERE relkind IN ('r', 'p') AND NOT relispartition AND relnamespace = 'public'::regnamespace ORDER BY relname"""
+PARTITIONS = "SELECT oid::regclass FROM pg_class WHERE relkind = 'r' AND relispartition"
 COLUMNS = """SELECT quote_ident(attname), format_type(base, NULL), CASE WHEN modifier > 0 THEN (modifier - 4) & 65535 END
              FROM (SELECT attname, attnum, CASE typtype WHEN 'd' THEN typbasetype ELSE atttypid END AS base,
                           CASE typtype WHEN 'd' THEN typtypmod ELSE atttypmod END AS modifier
@@ -70,6 +72,8 @@ def record(cluster, window, setup, work):
     control.execute(EVERYTHING)
     control.execute(setup)
     tables = [Table(name, quoted, columns_of(control, quoted)) for name, quoted in control.execute(TABLES).rows]
+    for name, in control.execute(PARTITIONS).rows:
+        control.execute(f'ALTER TABLE {name} REPLICA IDENTITY FULL')
     for table in tables:
         control.execute(f'ALTER TABLE {table.quoted} REPLICA IDENTITY FULL')
         rows = control.execute(f"COPY (SELECT * FROM {table.quoted}) TO STDOUT WITH (FORMAT csv, HEADER, NULL '\\N')").copied
