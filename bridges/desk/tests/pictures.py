@@ -34,8 +34,19 @@ def take_pictures(folder: Path) -> None:
                         browser.open(server.address + chosen)
                         _wait(browser, text)
                         browser.picture(folder / f"{name}-{width}{'-dark' if dark else ''}.png")
+                if name == "whatif":
+                    _upper(browser, server.address + chosen, text, folder / "desk.png")
                 if name in ("whatif", "audit"):
                     _print(browser, folder / f"{name}-print.png")
+
+
+def _upper(browser: Browser, address: str, text: str, path: Path) -> None:
+    """The picture of the README: the verdict, the timeline, the change, and what it comes to."""
+    browser.scheme(False)
+    browser.size(1100, 900)
+    browser.open(address)
+    _wait(browser, text)
+    browser.picture(path, int(browser.ask("document.getElementById('whatif').getBoundingClientRect().bottom + scrollY")) + 16)
 
 
 def _print(browser: Browser, path: Path) -> None:
