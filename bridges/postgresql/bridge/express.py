@@ -4,6 +4,7 @@ from dataclasses import dataclass, field
 from pglast import ast
 
 from . import NotCovered
+from .fits import clocks, tested
 from .looks import Looks
 from .statements import Target, Translator, only_reads, target_of
 from .terms import Statement
@@ -21,6 +22,9 @@ class Expressed:
     target: Target = field(default_factory=Target)          # which row images may be its own
     only_reads: bool = False                                # it writes nothing, but for the functions that it calls
     calls: bool = True                                      # it calls functions, as far as is known
+    harmless: bool = False                                  # it only reads, and the functions that it calls are the server's own
+    commits: bool = False                                   # it may commit itself
+    clocks: list = field(default_factory=list)              # (table, place of a column) of what gets the time of the transaction
 
 
 def express(node, tables, parameters, reason=''):
@@ -28,7 +32,7 @@ def express(node, tables, parameters, reason=''):
     if not reason:
         translator = Translator(tables, parameters)
         try:
-            found = Expressed(translator.statements(node), translator.notes)
+            found = Expressed(translator.statements(node), translator.notes, clocks=clocks(node, tables))
             if translator.looks_further:
                 looks = Looks(tables, parameters).of(node)
                 found.looks, found.unsaid = looks.made, looks.unsaid
@@ -39,8 +43,10 @@ def express(node, tables, parameters, reason=''):
     if functions and functions[0] not in reason:
         reason += f', with the function {functions[0]}'
     looks = Looks(tables, parameters).of(node)
-    return Expressed(reason=reason, looks=looks.made, unsaid=looks.unsaid, target=target_of(node, tables), only_reads=only_reads(node),
-                     calls=bool(functions))
+    reads, own = only_reads(node), set(functions) & set(getattr(tables, 'functions', ()))
+    return Expressed(reason=reason, looks=looks.made, unsaid=looks.unsaid, target=tested(target_of(node, tables), node, tables, parameters),
+                     only_reads=reads, calls=bool(functions), harmless=reads and not own,
+                     commits=isinstance(node, (ast.CallStmt, ast.DoStmt)), clocks=clocks(node, tables))
 
 
 def unread(reason, target=Target()):

@@ -14,6 +14,9 @@ class Step:
     statement: Statement = None     # None if gprom cannot express it
     reason: str = ''
     target: Target = field(default_factory=Target)      # which row images may be those of one without a statement
+    harmless: bool = False          # it only reads, and the functions that it calls are the server's own
+    commits: bool = False           # it may commit itself: CALL and DO outside of a block
+    clocks: list = field(default_factory=list)          # (table, place of a column) of what gets the time at which the transaction began
     only_reads: bool = False        # but for functions: it is left out, if no row images are its own
     version: int = 0                # how many commits of the slot stand before it
     narrowed: bool = False          # to the rows that the slot shows
@@ -62,12 +65,18 @@ class Transaction:
     savepoints: list = field(default_factory=list)      # (name, how many steps stand before it)
     unsaid: list = field(default_factory=list)          # (log line, reason) of reads that are not in the script
     exact: bool = False             # its snapshots are known
+    doubt: str = ''                 # why it is not known whether it made its commit
     failed: bool = False
 
     @property
     def is_snapshot(self):
         """Whether its level is snapshot isolation in gprom."""
         return self.level in ('repeatable read', 'serializable')
+
+    @property
+    def commits_itself(self):
+        """Whether it may have made several commits."""
+        return self.implicit and any(step.commits for step in self.steps)
 
     def uncovered(self):
         """The steps that gprom does not run as the server did."""

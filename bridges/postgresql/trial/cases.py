@@ -35,6 +35,7 @@ class Case:
     answers: dict[str, list[str]] = field(default_factory=dict)     # by the question, the lines under the first
     unsaid: int = 0                                     # reads of functions and triggers, which no log has, by the last line of `verify`
     captured: str = ''                                  # what is expected by a capture, where that is other than by the log
+    left: list[str] = field(default_factory=list)       # what OUT.left has to tell
 
 
 def write_skews():
@@ -323,6 +324,10 @@ def check(window, found, case, gprom):
     for question, (_, lines) in zip(case.answers, ask(gprom, window.path(f'{found.source.out}.dump'), case.answers)):
         if lines != case.answers[question]:
             wrong.append(f'{question}: expected {case.answers[question]}; found {lines}')
+    if case.left:
+        with open(window.path(f'{found.source.out}.left'), encoding='utf-8') as file:
+            told = file.read()
+        wrong += [f'out.left does not tell of {words}' for words in case.left if words not in told]
     return wrong
 
 
