@@ -24,7 +24,7 @@ class Expressed:
     calls: bool = True                                      # it calls functions, as far as is known
     harmless: bool = False                                  # it only reads, and the functions that it calls are the server's own
     commits: bool = False                                   # it may commit itself
-    clocks: list = field(default_factory=list)              # (table, place of a column) of what gets the time of the transaction
+    clocks: list = field(default_factory=list)              # of what gets the time of the transaction, as `fits.clocks` has it
 
 
 def express(node, tables, parameters, reason=''):

@@ -139,7 +139,7 @@ def has_text(term, table):
 # The time of the transaction
 
 def clocks(node, tables):
-    """(table, place of a column) of the columns that a statement gives the time at which its transaction began."""
+    """(table, place of a column, whether in new rows) of the columns that a statement gives the time at which its transaction began."""
     relation = getattr(node, 'relation', None)
     table = tables.get(relation.relname) if isinstance(relation, ast.RangeVar) else None
     if table is None or table.rewrites:
@@ -155,4 +155,5 @@ def clocks(node, tables):
     else:
         return []
     places = {column.name: at for at, column in enumerate(table.columns)}
-    return [(table.name, places[name]) for name in names if name in places and table.columns[places[name]].type.kind in ('timestamp', 'timestamptz')]
+    return [(table.name, places[name], isinstance(node, ast.InsertStmt)) for name in names
+            if name in places and table.columns[places[name]].type.kind in ('timestamp', 'timestamptz')]

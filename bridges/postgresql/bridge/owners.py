@@ -110,8 +110,8 @@ class Owners:
     def clock(transaction, commit):
         """The cost of the times in the images: when the transaction began is that of its message, to a millisecond."""
         cost = 0
-        for name, at in {place for step in transaction.steps for place in step.clocks}:
-            for _, _, row in (change for change in commit.changes if change[0] == name and change[2] is not None):
+        for name, at, is_new in {place for step in transaction.steps for place in step.clocks}:
+            for row in (new for table, old, new in commit.changes if table == name and new is not None and (old is None) == is_new):
                 early = transaction.started - to_seconds(row[at].removesuffix('+00')) if row[at] else None
                 if early is None or not -HALF - 2e-6 <= early <= HALF + SLACK:
                     return None

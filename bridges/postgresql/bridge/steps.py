@@ -16,7 +16,7 @@ class Step:
     target: Target = field(default_factory=Target)      # which row images may be those of one without a statement
     harmless: bool = False          # it only reads, and the functions that it calls are the server's own
     commits: bool = False           # it may commit itself: CALL and DO outside of a block
-    clocks: list = field(default_factory=list)          # (table, place of a column) of what gets the time at which the transaction began
+    clocks: list = field(default_factory=list)          # (table, place of a column, whether in new rows) of what gets the time of the transaction
     only_reads: bool = False        # but for functions: it is left out, if no row images are its own
     version: int = 0                # how many commits of the slot stand before it
     narrowed: bool = False          # to the rows that the slot shows
