@@ -11,7 +11,7 @@ class Step:
     line: int
     start: float
     end: float
-    statement: Statement = None     # None if gprom cannot express it
+    statement: Statement | None = None      # None if gprom cannot express it
     reason: str = ''
     target: Target = field(default_factory=Target)      # which row images may be those of one without a statement
     harmless: bool = False          # it only reads, and the functions that it calls are the server's own
@@ -21,13 +21,14 @@ class Step:
     version: int = 0                # how many commits of the slot stand before it
     narrowed: bool = False          # to the rows that the slot shows
     filled: bool = False            # with values that the server computed
-    literals: list = None           # statements of its row images, which stand in its place
-    parts: list = None              # of a statement that is deferred: the statements that it is
-    seen: int = None                # of a capture: how many commits its snapshot sees
-    until: int = None               # of a capture: how many the newest test of its rows may have seen
-    rows: int = None                # of a capture: how many rows it gave or wrote
+    literals: list | None = None    # statements of its row images, which stand in its place
+    parts: list | None = None       # of a statement that is deferred: the statements that it is
+    seen: int | None = None         # of a capture: how many commits its snapshot sees
+    until: int | None = None        # of a capture: how many the newest test of its rows may have seen
+    rows: int | None = None         # of a capture: how many rows it gave or wrote
     shares: bool = False            # of a capture: FOR KEY SHARE, which waits for those that delete its rows, and not for those that update them
     blind: bool = False             # of a capture: the rows that it wrote are not known by their number
+    refused: bool = False           # of a capture: the server refused it, since another transaction had written its row
 
     @property
     def writes(self):
@@ -47,18 +48,19 @@ class Transaction:
     implicit: bool = False          # without BEGIN: the statements of one message, or of one pipeline
     virtual: str = ''               # its number in the backend
     steps: list = field(default_factory=list)
-    began: float = None             # when it began, which is now() in it
-    started: float = None           # the first statement's start and end: a snapshot is taken in between
-    first_end: float = None
+    began: float | None = None      # when it began, which is now() in it
+    started: float | None = None    # the first statement's start and end: a snapshot is taken in between
+    first_end: float | None = None
     xid: str = '0'
     fate: str = 'active'
     end_line: int = 0
     end: float = float('inf')
-    commit: int = None              # index into the commits of the slot, from 0
+    commit: int | None = None       # index into the commits of the slot, from 0
     reason: str = ''                # why it is not covered as a whole
     in_part: bool = False           # the slot has images of it that are no rows of gprom
     lowest: int = 0                 # the commits that its session had seen before
     version: int = 0                # how many commits stand before its BEGIN
+    ended: int = 0                  # how many stand before its ROLLBACK at least, where the server refused a statement
     settled: bool = False           # its statements write the rows of the slot where they stand
     literals: list = field(default_factory=list)        # statements of its row images, which stand in the place of all its steps
     rewritten: int = 0              # row versions that its patches make besides those of the images

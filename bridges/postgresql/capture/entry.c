@@ -134,11 +134,7 @@ append_place(Entry *entry, Snapshot snapshot)
 	if (capture_active)
 		appendStringInfo(out, ",\"u\":" UINT64_FORMAT ",\"f\":%d", capture_active->number, capture_active->finishing);
 	else
-	{
 		appendStringInfo(out, ",\"m\":" INT64_FORMAT, GetCurrentStatementStartTimestamp());
-		if (GetCurrentTransactionStartTimestamp() != GetCurrentStatementStartTimestamp())
-			appendStringInfo(out, ",\"b\":" INT64_FORMAT, GetCurrentTransactionStartTimestamp());	/* what now() gives */
-	}
 	if (snapshot && snapshot->snapshot_type == SNAPSHOT_MVCC)
 	{
 		appendStringInfoString(out, ",\"s\":\"");

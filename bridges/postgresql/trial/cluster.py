@@ -34,6 +34,11 @@ log_timezone = 'UTC'
 timezone = 'UTC'
 deadlock_timeout = 50ms
 """
+PLAIN = """
+listen_addresses = ''
+unix_socket_directories = '{folder}'
+fsync = off
+"""
 SLOT = 'bridge'
 OTHERS = "backend_type = 'client backend' AND pid NOT IN (pg_backend_pid(), {})"
 UNLOGGED = '-c log_min_duration_statement=-1'
@@ -67,15 +72,16 @@ def as_unprivileged_user():
 class Cluster:
     """The server, as a context: it runs inside of the `with`, and is stopped and removed whatever ends that."""
 
-    def __init__(self, captures=False):
+    def __init__(self, captures=False, is_plain=False):
+        self.is_plain = is_plain                        # as a server is installed, with no settings but where its socket is
         self.settings = {}                              # what was set since the server started
         self.captures = captures                        # whether it has the extension, if that can be built
         self.programs = programs_folder()
         self.folder = tempfile.mkdtemp(prefix='gprom-', dir='/tmp')     # the path of a socket may have 107 bytes
         self.data = f'{self.folder}/data'
-        user, self.prefix = as_unprivileged_user()
-        if user:
-            os.chown(self.folder, user.pw_uid, user.pw_gid)
+        self.user, self.prefix = as_unprivileged_user()
+        if self.user:
+            os.chown(self.folder, self.user.pw_uid, self.user.pw_gid)
         self.read = self.captured = 0                   # how many bytes of the log and of the capture have been taken
         self.library, self.missing = None, ''           # of the extension, or why it could not be built
 
@@ -93,13 +99,14 @@ class Cluster:
             if self.captures:
                 self.library, self.missing = extension.build(self.programs, f'{self.folder}/extension')
             with open(f'{self.data}/postgresql.conf', 'a', encoding='utf-8') as file:
-                file.write(SETTINGS.format(folder=self.folder))
+                file.write((PLAIN if self.is_plain else SETTINGS).format(folder=self.folder))
                 file.write(f"session_preload_libraries = '{self.library}'\n" if self.library else '')
             self.command('pg_ctl', '-D', self.data, '-w', '-t', '120', '-l', f'{self.folder}/start.log', 'start')
             self.control = self.connect()
             unseen = f'{UNLOGGED} -c gprom_capture.enabled=off' if self.library else UNLOGGED
             self.watcher = self.connect(options=unseen)
-            self.control.execute(f"SELECT pg_create_logical_replication_slot('{SLOT}', 'test_decoding')")
+            if not self.is_plain:
+                self.control.execute(f"SELECT pg_create_logical_replication_slot('{SLOT}', 'test_decoding')")
         except BaseException:
             self.remove()
             raise

@@ -21,7 +21,7 @@ def build(programs, folder):
     if missing := what_is_missing(programs):
         return None, missing
     shutil.copytree(SOURCES, folder)
-    done = subprocess.run(['make', '-s', '-C', folder, f'PG_CONFIG={programs}/pg_config', 'with_llvm=no', 'COPT=-Werror'],
+    done = subprocess.run(['make', '-s', '-C', folder, f'PG_CONFIG={programs}/pg_config', 'COPT=-Werror'],
                           stdout=subprocess.PIPE, stderr=subprocess.STDOUT, text=True, check=False)
     if done.returncode:
         raise RuntimeError(f'gprom_capture is not built: {done.stdout.strip()}')
