@@ -50,7 +50,7 @@ def of_statement(statement, tables):
     if not table.rewrites and statement.kind == 'update':
         found.sets = {table.index(name): UNKNOWN for name in statement.free}
         found.sets |= {table.index(name): UNKNOWN if term is HOLE else term for name, term in statement.sets}
-    if not table.rewrites and statement.kind in ('insert', 'upsert'):
+    if not table.rewrites and statement.kind in ('insert', 'upsert') and statement.rows is not None:
         found.rows = [[UNKNOWN if cell is HOLE else cell for cell in row] for row in statement.rows]
     return found
 

@@ -21,7 +21,7 @@ IN_CONDITION, SET, COMPUTED, NAMED = 1_000_000, 10_000, 100, 1         # weights
 
 
 @dataclass
-class Fit:
+class Shape:
     """The scale of each number without one, and the columns that are left out, by table and column."""
     scales: dict[tuple[str, str], int] = field(default_factory=dict)
     dropped: set[tuple[str, str]] = field(default_factory=set)
@@ -74,9 +74,9 @@ class Fit:
         return lambda row: tuple(cell(row[at], types[at]) if at in types else row[at] for at in kept)
 
 
-def fit(tables, start, commits, texts):
-    """The Fit of a window, for its rows, commits and the texts of its statements."""
-    found = Fit(scales(tables, start, commits))
+def shape_of(tables, start, commits, texts):
+    """The Shape of a window, for its rows, commits and the texts of its statements."""
+    found = Shape(scales(tables, start, commits))
     wide = [table for table in tables.values() if len(table.columns) > COLUMNS]
     uses = used(wide, texts) if wide else {}
     for table in wide:
