@@ -128,5 +128,16 @@ def _named(digest: str, name: str) -> str:
     return f"{digest}  {name}" if escaped == name else f"\\{digest}  {escaped}"
 
 
+def recorded(dump: Dump) -> bool | None:
+    """Whether the file of digests beside a dump has its digest; None where no such file is there."""
+    try:
+        text = Path(f"{dump.path.resolve()}.sha256").read_text(encoding="utf-8", errors="replace")
+    except OSError:
+        return None
+    names = (line.lstrip("\\").partition("  ") for line in text.splitlines())
+    found = [digest for digest, _, name in names if Path(name.replace("\\\\", "\\")).name == dump.path.resolve().name]
+    return dump.sha256 in found if found else None
+
+
 def _sha256(path: Path) -> str:
     return hashlib.sha256(path.read_bytes()).hexdigest()

@@ -5,7 +5,8 @@ from __future__ import annotations
 import time
 from pathlib import Path
 
-from .browser import Browser, BrowserError, installed
+from browser import Browser, BrowserError, installed
+
 from .support import Serving, desk
 
 WHATIF = "#v=8&t=2.2&w=%5B%5B%22replace%22%2C2%2C2%2C%22UPDATE%20item%20SET%20qty%20%3D%20qty%20-%202%20WHERE%20id%20%3D%201%22%5D%5D"
@@ -46,7 +47,7 @@ def _upper(browser: Browser, address: str, text: str, path: Path) -> None:
     browser.size(1100, 900)
     browser.open(address)
     _wait(browser, text)
-    browser.picture(path, int(browser.ask("document.getElementById('whatif').getBoundingClientRect().bottom + scrollY")) + 16)
+    browser.picture(path, "html", "#whatif")
 
 
 def _print(browser: Browser, path: Path) -> None:

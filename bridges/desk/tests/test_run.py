@@ -77,6 +77,24 @@ class Run(unittest.TestCase):
                 self.assertEqual(subprocess.run(["sha256sum", "-c", sums.name], cwd=self.folder, capture_output=True).returncode, 1)
         self.assertTrue((self.folder / "back\\slash.dump.sha256").read_text().startswith("\\"))
 
+    def test_an_audit_compares_the_digest(self) -> None:
+        self.run_it(script("pay"), str(self.folder / "p.dump"))
+        dump = self.folder / "p.dump"
+        self.assertIn("ok  The SHA-256 is that of the file of digests beside the dump", self.audit(dump)[1])
+        forged = dump.read_text().replace("UPDATE acct SET bal = (bal + 7)", "UPDATE acct SET bal = (bal + 8)").replace("57", "58")
+        dump.write_text(forged)
+        status, out = self.audit(dump)
+        # The log and its rows were changed together: CHECK finds nothing, the digest does.
+        self.assertIn("ok  The record of a history", out)
+        self.assertIn("NO  The SHA-256 is not that", out)
+        self.assertEqual(status, 1)
+
+    def audit(self, dump: Path) -> tuple[int, str]:
+        out = io.StringIO()
+        with contextlib.redirect_stdout(out):
+            status = main(["--no-cache", str(dump), "audit"])
+        return status, out.getvalue()
+
     def test_the_script_may_lie_elsewhere(self) -> None:
         other = self.folder / "other"
         other.mkdir()
