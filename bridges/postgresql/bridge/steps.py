@@ -18,6 +18,7 @@ class Step:
     commits: bool = False           # it may commit itself: CALL and DO outside of a block
     clocks: list = field(default_factory=list)          # (table, place of a column, whether in new rows) of what gets the time of the transaction
     only_reads: bool = False        # but for functions: it is left out, if no row images are its own
+    refused: bool = False           # by the server, since another transaction had written its row
     version: int = 0                # how many commits of the slot stand before it
     narrowed: bool = False          # to the rows that the slot shows
     filled: bool = False            # with values that the server computed
@@ -28,7 +29,6 @@ class Step:
     rows: int | None = None         # of a capture: how many rows it gave or wrote
     shares: bool = False            # of a capture: FOR KEY SHARE, which waits for those that delete its rows, and not for those that update them
     blind: bool = False             # of a capture: the rows that it wrote are not known by their number
-    refused: bool = False           # of a capture: the server refused it, since another transaction had written its row
 
     @property
     def writes(self):

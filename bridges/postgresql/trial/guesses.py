@@ -61,6 +61,12 @@ CASES = [
     Case('patches write more row versions than the server', EQUALS,
          [f'UPDATE many SET n = {n} WHERE ctid = (SELECT min(ctid) FROM many)' for n in range(8, 32)] + ['ALTER TABLE many ADD m INTEGER'],
          ', '.join(['patched'] * 19 + ['not covered'] * 6)),
+    Case('an UPDATE that could not be serialized', ACCOUNTS,
+         ['BEGIN ISOLATION LEVEL REPEATABLE READ', 'SELECT * FROM acct', f'b: {NEXT}', 'UPDATE acct SET bal = bal - 1 WHERE id = 1', 'ROLLBACK',
+          "SET default_transaction_isolation = 'repeatable read'", NEXT, 'BEGIN', 'SELECT * FROM acct', 'b: DELETE FROM acct WHERE id = 2',
+          'SELECT * FROM acct WHERE id = 2 FOR UPDATE', 'COMMIT'],
+         'rolled back, same, same, rolled back, same',
+         {'CONFLICTS 2': ['acct 1.1.1 at 1 : 3 wrote it as 2']}),
 ]
 
 
