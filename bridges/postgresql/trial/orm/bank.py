@@ -114,7 +114,7 @@ class Bank(Application):
         self.engine = sa.create_engine('postgresql+psycopg2://postgres@/postgres', connect_args={'host': folder}, isolation_level=level, pool_size=16)
         self.session = orm.sessionmaker(self.engine)
         self.views = [self.transfer, self.transfer, self.transfer, self.deposit, self.correct, self.open, self.write, self.send, self.report,
-                      self.count, self.tag, self.block, self.forget, self.interest]
+                      self.count, self.tag, self.block, self.forget, self.interest, self.adjust, self.merge, self.clean]
 
     def definitions(self) -> str:
         dialect = self.engine.dialect
@@ -219,6 +219,26 @@ class Bank(Application):
             account = session.execute(sa.select(Account).where(Account.id == 2 * dice.randint(1, ACCOUNTS // 2)).with_for_update()).scalar_one()
             with session.begin_nested():
                 account.balance = account.balance + 1
+
+    def adjust(self, dice: random.Random) -> None:
+        """Several rows by one statement with lists of values, and a CASE."""
+        with self.session.begin() as session:
+            session.execute(sa.select(Account.id).order_by(Account.id).with_for_update()).all()
+            session.bulk_update_mappings(Letter, [{'id': n, 'is_sent': True} for n, in session.execute(sa.select(Letter.id).limit(2))])
+            session.execute(sa.update(Account).values(rate=sa.case((Account.kind == Kind.SAVINGS, 1.25), else_=Account.rate),
+                                                      version=Account.version + 1).execution_options(synchronize_session=False))
+
+    def merge(self, dice: random.Random) -> None:
+        """An object from elsewhere becomes a row, or changes the one that is there."""
+        with self.session.begin() as session:
+            session.merge(Tag(id=100 + dice.randrange(4), name=f'merged {dice.randrange(1000)}'))
+
+    def clean(self, dice: random.Random) -> None:
+        """Rows are deleted by a subquery, and by a text that begins so."""
+        with self.session.begin() as session:
+            used = sa.select(transfer_tag.c.tag_id)
+            session.execute(sa.delete(Tag).where(Tag.id.not_in(used), Tag.name.like('tag%')).execution_options(synchronize_session=False))
+            session.execute(sa.delete(Letter).where(Letter.is_sent, Letter.id < dice.randrange(20)).execution_options(synchronize_session=False))
 
     # What is planted
 

@@ -35,7 +35,7 @@ class Shop(Application):
         from . import models
         self.models, self.transaction, self.connection = models, transaction, connection
         self.views = [self.order, self.order, self.order, self.restock, self.reprice, self.visit, self.review, self.pay, self.browse,
-                      self.register, self.cancel, self.rename, self.top, self.describe]
+                      self.register, self.cancel, self.rename, self.top, self.describe, self.discount, self.spend, self.export, self.forget]
 
     def definitions(self) -> str:
         with self.connection.schema_editor(collect_sql=True) as editor:
@@ -157,6 +157,41 @@ class Shop(Application):
             product = m.Product.objects.select_for_update().get(sku=f'p-{dice.randint(1, PRODUCTS)}')
             product.about = LONG + str(dice.random())
             product.save(update_fields=['about', 'updated'])
+
+    def discount(self, dice: random.Random) -> None:
+        """Several products at once, each with values of its own."""
+        m = self.models
+        with self.transaction.atomic():
+            products = list(m.Product.objects.select_for_update().order_by('pk')[:3])
+            for product in products:
+                product.price, product.title = max(product.price - Decimal('0.05'), Decimal(1)), f'Product {product.pk}, {dice.choice(["new", "old"])}'
+            m.Product.objects.bulk_update(products, ['price', 'title'])
+
+    def spend(self, dice: random.Random) -> None:
+        """A value that a subquery computes, and conditions by Q objects."""
+        m = self.models
+        from django.db.models import F, OuterRef, Q, Subquery
+        last = m.Order.objects.filter(customer=OuterRef('pk')).order_by('-pk').values('note')[:1]
+        status = m.Order.objects.filter(customer=OuterRef('pk')).order_by('-pk').values('status')[:1]
+        m.Customer.objects.filter(Q(orders__total__gt=20) | ~Q(name__startswith='Customer'), pk=dice.randint(1, 4)).update(name=Subquery(status))
+        list(m.Customer.objects.annotate(last=Subquery(last)).filter(Q(last='') | Q(pk=1))[:3])
+        m.Wallet.objects.filter(Q(owner='ann') | Q(owner='bob'), ~Q(balance__lt=-100)).update(balance=F('balance') - F('balance') * 0)
+
+    def export(self, dice: random.Random) -> None:
+        """Rows by a cursor of the server, and groups."""
+        m = self.models
+        from django.db.models import Avg, Max
+        with self.transaction.atomic():
+            for order in m.Order.objects.filter(status__in=['paid', 'sent']).iterator(chunk_size=2):
+                order.total                           # pylint: disable=pointless-statement
+        m.Product.objects.aggregate(Avg('price'), Max('stock'))
+        m.Line.objects.values('product').annotate(Max('price')).order_by('product').first()
+
+    def forget(self, dice: random.Random) -> None:
+        """Rows are deleted by a condition on another table."""
+        m = self.models
+        m.Line.objects.filter(order__status='sent', count=1).delete()
+        m.Counter.objects.filter(value__range=(900, 1000)).delete()
 
     # What is planted
 
