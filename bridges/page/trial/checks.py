@@ -8,7 +8,8 @@ import time
 from collections.abc import Iterator
 from pathlib import Path
 
-from .browser import Browser
+from browser import Browser
+
 from .cases import CASES, SEEN
 from .pages import Pages
 from .scripts import large, overlapping

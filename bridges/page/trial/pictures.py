@@ -4,7 +4,8 @@ from __future__ import annotations
 
 from pathlib import Path
 
-from .browser import Browser
+from browser import Browser
+
 from .pages import Pages
 from .scripts import overlapping
 
@@ -26,11 +27,11 @@ def take_pictures(browser: Browser, pages: Pages, folder: Path) -> None:
     browser.open(page, script=False)
     browser.picture(folder / "stock-plain.png")
     browser.open(page)
-    browser.print(folder / "stock.pdf")
+    (folder / "stock.pdf").write_bytes(browser.pdf())
     overlapping_page = pages.page(pages.dump("overlapping", overlapping(800)), "--transactions", "40")
     browser.open(overlapping_page, "#t799")
     browser.picture(folder / "overlapping.png", "#timeline", "#t799")
-    browser.print(folder / "overlapping.pdf")
+    (folder / "overlapping.pdf").write_bytes(browser.pdf())
     # The picture of the guide, by what the program itself answers.
     browser.size(1200, 1500)
     browser.open(pages.page(pages.dump("stock")), "#t2")

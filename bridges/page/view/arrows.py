@@ -5,7 +5,8 @@ from __future__ import annotations
 from dataclasses import dataclass
 from typing import TYPE_CHECKING, ClassVar
 
-from .answers import Edge
+from gprom.answers import Edge
+
 from .markup import escape
 
 if TYPE_CHECKING:
@@ -91,9 +92,8 @@ def _place(timeline: Timeline, edge: Edge, number: int) -> Place | None:
     it = timeline.boxes.get(number)
     if it is None:
         return None
-    reader, k = edge.reader() or (0, 0)
-    if reader == number and 1 <= k <= len(it.statements):
-        return Place(timeline.x(it.statements[k - 1].line), timeline.y(it), True)
+    if edge.reader == number and 1 <= edge.statement <= len(it.statements):
+        return Place(timeline.x(it.statements[edge.statement - 1].line), timeline.y(it), True)
     return Place(timeline.x(it.end_line), timeline.y(it), False) if it.end_line else None
 
 

@@ -2,10 +2,12 @@
 
 from __future__ import annotations
 
-from .answers import Change, Edge
+from gprom import answers as a
+from gprom.answers import Edge
+from gprom.program import Answer
+
 from .history import History, Statement, Transaction
 from .markup import Links, cut, escape, fold, row_or_none, sign
-from .program import Answer
 
 # The rows that are shown of what a statement saw or changed: so many of all of them, and of each one between these.
 MOST_ROWS = 1500
@@ -34,8 +36,8 @@ def _transaction(it: Transaction, chosen: bool, most: int, edges: list[Edge], li
     return (
         f'<section class="one{" chosen" if chosen else ""}" id="t{number}" tabindex="-1" aria-labelledby="t{number}-name" '
         f'data-reads="{" ".join(map(str, it.reads()))}">'
-        f'<h3 id="t{number}-name"><span class="chip {it.kind}">{sign(it.kind, it.version, listed.fate)}</span> Transaction {number} '
-        f"<small>session {listed.session}, {listed.level}, begun at version {listed.begin}, {escape(listed.fate)}</small></h3>"
+        f'<h3 id="t{number}-name"><span class="chip {it.kind}">{sign(it.kind, it.version, listed.became)}</span> Transaction {number} '
+        f"<small>session {listed.session}, {listed.level}, begun at version {listed.begin}, {escape(listed.became)}</small></h3>"
         f"{_met(it, links)}{_in_cycle(number, edges, links)}"
         + (f'<ol class="statements">{statements}</ol>' if statements else '<p class="quiet">No statement.</p>')
         + fold("the questions behind this", asked, 40)
@@ -66,7 +68,7 @@ def _changed(answer: Answer | None, most: int) -> str:
         return ""
     if answer.refused:
         return f"<p>{escape(answer.head)}</p>"
-    changes = [change for change in map(Change.read, answer.lines[:most]) if change]
+    changes = [change for change in map(a.change, answer.lines[:most]) if change]
     if not changes:
         return '<p class="quiet">Changed no row.</p>'
     rows = "".join(

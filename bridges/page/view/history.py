@@ -3,11 +3,14 @@
 from __future__ import annotations
 
 from bisect import bisect_left
+from collections.abc import Iterable
 from dataclasses import dataclass, field
+from pathlib import Path
 
-from .answers import Conflict, Edge, Life, Listed, Logged, Span, provenance
-from .log import Log, read_log
-from .program import Answer, Call
+from gprom import answers as a
+from gprom.history import Dump
+from gprom.history import History as Log
+from gprom.program import Answer, Program
 
 # The rows that are kept of an answer of SAW or CHANGES. The page shows fewer.
 MOST_KEPT = 200
@@ -44,7 +47,7 @@ class Statement:
 
 @dataclass
 class Transaction:
-    listed: Listed
+    listed: a.Listed
     log: Answer
     conflicts: Answer
     begin_line: int = 0
@@ -63,10 +66,10 @@ class Transaction:
     @property
     def version(self) -> int | None:
         """The version that it made."""
-        return int(self.listed.fate.rpartition(" ")[2]) if self.kind == "committed" else None
+        return self.listed.version
 
-    def met(self) -> list[Conflict]:
-        return [conflict for conflict in map(Conflict.read, self.conflicts.lines) if conflict]
+    def met(self) -> list[a.Conflict]:
+        return a.lines_of(self.conflicts, a.conflict)
 
     def reads(self) -> list[int]:
         """The versions that it read, in order."""
@@ -79,65 +82,106 @@ class Table:
     columns: list[str]
     versions: Answer
     history: Answer
-    provenance: dict[int, Answer] = field(default_factory=dict)
-    _polynomials: dict[int, dict[str, str]] = field(default_factory=dict)
+    provenance: dict[int, Answer]
+    _polynomials: dict[int, dict[a.Row, str]] = field(default_factory=dict)
 
-    def spans(self) -> list[Span]:
-        return [Span.read(line) for line in self.versions.lines]
+    def spans(self) -> list[a.Span]:
+        return a.lines_of(self.versions, a.span)
 
-    def lives(self, wanted: set[str]) -> list[Life]:
+    def lives(self, wanted: set[str]) -> list[a.Life]:
         """The lines of HISTORY about these rows."""
         lines = (line for line in self.history.lines if line.partition(" ")[0] in wanted)
-        return [life for life in map(Life.read, lines) if life]
+        return [life for life in map(a.life, lines) if life]
 
-    def polynomial(self, version: int, row: str) -> str | None:
+    def polynomial(self, version: int, row: a.Row) -> str | None:
         """What rows with these cells came from at a version, where it was asked."""
         if version not in self._polynomials:
             answer = self.provenance.get(version)
-            self._polynomials[version] = dict(map(provenance, answer.lines)) if answer else {}
+            self._polynomials[version] = {line.row: line.value or "" for line in a.lines_of(answer, a.plain)} if answer else {}
         return self._polynomials[version].get(row)
+
+
+class Questions:
+    """The questions of one call, each once, with the lines that are kept of its answer. The log decides which there are."""
+
+    def __init__(self, log: Log, most: int):
+        self._log = log
+        self._kept: dict[str, int | None] = {}
+        self.add("CHECK", "SERIAL", "TRANSACTIONS")
+        for table in log.tables:
+            self.add(f"VERSIONS OF {table}", f"HISTORY OF {table}")
+        self.provenance: dict[str, list[int]] = {**{table: [] for table in log.tables}, **self._of_versions(most)}
+        for it in log.transactions:
+            self.add(f"LOG {it.number}")
+            self.add(f"CONFLICTS {it.number}", *(about(it.number, one.number, one.text) for one in it.statements), most=MOST_KEPT)
+
+    def add(self, *questions: str, most: int | None = None) -> None:
+        self._kept.update(dict.fromkeys(questions, most))
+
+    def _of_versions(self, most: int) -> dict[str, list[int]]:
+        """The versions of each table whose rows are asked where they came from: of too many the last ones, which have what stands now."""
+        wrote = [(it.version, table) for it in self._log.makers if it.version for table in sorted(it.tables()) if table in self._log.tables]
+        chosen: dict[str, list[int]] = {}
+        for version, table in sorted(wrote, reverse=True):
+            most -= min(self._log.sizes[table], MOST_ROWS)
+            if most < 0:
+                break
+            chosen.setdefault(table, []).append(version)
+            self.add(came_from(version, table))
+        return chosen
+
+    def ask(self, program: Program, dump: Path) -> dict[str, Answer]:
+        return {answer.question: answer for answer in program.ask(dump, list(self._kept), most=list(self._kept.values()))}
+
+
+def about(transaction: int, statement: int, text: str) -> str:
+    """The question about what a statement did."""
+    return f"SAW {transaction} AFTER {statement} {text}" if text.startswith("SELECT") else f"CHANGES {transaction} {statement}"
+
+
+def came_from(version: int, table: str) -> str:
+    return f"PROVENANCE OF AS OF {version} SELECT * FROM {table}"
 
 
 class History:
     """The answers about a dump."""
 
-    def __init__(self, program: list[str], dump: str, limits: Limits):
-        log = read_log(dump)
-        self._call = Call()
-        self.check, self.serial, self.listing = map(self._call.add, ("CHECK", "SERIAL", "TRANSACTIONS"))
-        self.tables = self._ask_tables(log, limits.provenance)
-        asked = [self._ask_transaction(number, logged.statements) for number, logged in enumerate(log.transactions, 1)]
-        self._call.run(program, dump)
-        self.answers = self._call.answers
-        self.edges = [edge for edge in map(Edge.read, self.serial.lines) if edge]
-        listed = [line for line in map(Listed.read, self.listing.lines) if line]
-        self.transactions = [_transaction(line, *asked[line.number - 1]) for line in listed]
+    def __init__(self, program: Program, dump: Path, limits: Limits):
+        log = _log_of(dump)
+        questions = Questions(log, limits.provenance)
+        self._answers = questions.ask(program, dump)
+        self.answers = list(self._answers.values())
+        self.check, self.serial, self.listing = self.answers[:3]
+        self.tables = {
+            name: Table(
+                name,
+                table.names,
+                self._answers[f"VERSIONS OF {name}"],
+                self._answers[f"HISTORY OF {name}"],
+                {version: self._answers[came_from(version, name)] for version in questions.provenance[name]},
+            )
+            for name, table in log.tables.items()
+        }
+        self.edges = a.lines_of(self.serial, a.edge) if self.serial.head.startswith("cycle ") else []
+        self.transactions = [self._transaction(line) for line in a.lines_of(self.listing, a.listed)]
         self._find_reads()
         self.makers = {it.version: it.number for it in self.transactions if it.version is not None}
         self.last = max(self.makers, default=0)
         self.shown = self._cut(limits.transactions)
 
-    def _ask_tables(self, log: Log, most: int) -> dict[str, Table]:
-        add = self._call.add
-        tables = {it: Table(it, columns, add(f"VERSIONS OF {it}"), add(f"HISTORY OF {it}")) for it, columns in log.columns.items()}
-        wrote = [(made.version, name) for made in log.transactions if made.version for name in sorted(made.targets()) if name in tables]
-        # Of too many the last ones are asked: they have the polynomials of what stands now.
-        for version, name in sorted(wrote, reverse=True):
-            most -= min(log.sizes.get(name, 0), MOST_ROWS)
-            if most < 0:
-                break
-            tables[name].provenance[version] = add(f"PROVENANCE OF AS OF {version} SELECT * FROM {name}")
-        return tables
-
-    def _ask_transaction(self, number: int, texts: list[str]) -> tuple[Answer, Answer, list[tuple[Answer | None, Answer | None]]]:
-        add = self._call.add
-        log, conflicts, statements = add(f"LOG {number}"), add(f"CONFLICTS {number}", MOST_KEPT), []
-        for k, text in enumerate(texts, 1):
-            if text.startswith("SELECT"):
-                statements.append((add(f"SAW {number} AFTER {k} {text}", MOST_KEPT), None))
-            else:
-                statements.append((None, add(f"CHANGES {number} {k}", MOST_KEPT)))
-        return log, conflicts, statements
+    def _transaction(self, listed: a.Listed) -> Transaction:
+        log = self._answers[f"LOG {listed.number}"]
+        lines = a.lines_of(log, a.logged)
+        made = Transaction(listed, log, self._answers[f"CONFLICTS {listed.number}"])
+        if not lines:
+            return made
+        made.begin_line = lines[0].line
+        made.end_line = lines[-1].line if made.kind != "active" else None
+        for k, line in enumerate(lines[1 : 1 + listed.statements], 1):
+            answer = self._answers.get(about(listed.number, k, line.text))
+            saw, changes = (answer, None) if line.text.startswith("SELECT") else (None, answer)
+            made.statements.append(Statement(listed.number, k, line.line, line.text, listed.begin, saw, changes))
+        return made
 
     def _find_reads(self) -> None:
         """A statement of a read committed transaction reads the version that is the newest at its line; others read that of the BEGIN."""
@@ -157,13 +201,13 @@ class History:
         return [it for it in self.transactions if it.number in kept]
 
 
-def _transaction(listed: Listed, log: Answer, conflicts: Answer, asked: list[tuple[Answer | None, Answer | None]]) -> Transaction:
-    lines = [line for line in map(Logged.read, log.lines) if line]
-    made = Transaction(listed, log, conflicts)
-    if not lines:
-        return made
-    made.begin_line = lines[0].line
-    made.end_line = lines[-1].line if made.kind != "active" else None
-    for k, (line, (saw, changes)) in enumerate(zip(lines[1 : 1 + listed.statements], asked), 1):
-        made.statements.append(Statement(listed.number, k, line.line, line.text, listed.begin, saw, changes))
-    return made
+def _log_of(dump: Path) -> Log:
+    """The log of a dump. Of a file that cannot be read it is empty: then the program says what is wrong with it."""
+    try:
+        return Dump.open(dump).history
+    except OSError:
+        return Log()
+
+
+def refused(answers: Iterable[Answer]) -> list[Answer]:
+    return [it for it in answers if it.refused]

@@ -3,15 +3,14 @@
 from __future__ import annotations
 
 import html
-import re
 from collections.abc import Iterable
 
-from .program import Answer
+from gprom.answers import Row, row_text, token_parts
+from gprom.program import Answer
 
 SIGNS = {"committed": "✓", "lost": "✕", "rolled": "↶", "active": "…"}
 # The characters of a text that are shown where it stands beside the whole one.
 LONG = 400
-_TOKEN = re.compile(r"([iqu]\d+\.\d+(?:\.\d+)?)")
 
 
 def escape(value: object) -> str:
@@ -47,8 +46,8 @@ def fold(summary: str, answers: Iterable[Answer], most: int = 60) -> str:
     return f'<details class="asked"><summary>{escape(summary)}</summary>{"".join(parts)}</details>'
 
 
-def row_or_none(row: str | None) -> str:
-    return escape(row) if row is not None else '<span class="none">no row</span>'
+def row_or_none(row: Row | None) -> str:
+    return escape(row_text(row)) if row is not None else '<span class="none">no row</span>'
 
 
 class Links:
@@ -65,9 +64,12 @@ class Links:
 
     def polynomial(self, words: str, most: int = 6) -> str:
         """A polynomial, each token of which is a link to its statement, cut behind `most` of them."""
-        parts = _TOKEN.split(words)
-        out = []
-        for at, part in enumerate(parts[: 2 * most]):
-            out.append(self.to(*map(int, part[1:].split(".")[:2]), part) if at % 2 else escape(part))
-        left = len(parts) // 2 - most
+        out: list[str] = []
+        shown = left = 0
+        for text, named in token_parts(words):
+            if shown == most:
+                left += named is not None
+                continue
+            out.append(self.to(*named, text) if named else escape(text))
+            shown += named is not None
         return f"<code>{''.join(out)}</code>" + (f' <span class="none">(cut: {count(left, "more token")})</span>' if left > 0 else "")

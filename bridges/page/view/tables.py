@@ -6,7 +6,8 @@ import re
 from collections import Counter
 from dataclasses import dataclass
 
-from .answers import Life, Span, cells
+from gprom.answers import Life, Span, cell_text
+
 from .history import History, Table
 from .markup import Links, count, cut, escape, fold, row_or_none
 
@@ -64,7 +65,7 @@ def choose(spans: list[Span], budget: int) -> set[int]:
 
 
 def tables(history: History, links: Links, budget: int) -> str:
-    all_spans = [table.spans() if table.versions.answered else [] for table in history.tables.values()]
+    all_spans = [table.spans() if not table.versions.refused else [] for table in history.tables.values()]
     shares = fair_shares([len(spans) for spans in all_spans], budget)
     parts = [_table(history, table, spans, share, links) for table, spans, share in zip(history.tables.values(), all_spans, shares)]
     return "".join(parts) or "<p>No table.</p>"
@@ -94,7 +95,7 @@ def _listed(numbers: list[int]) -> str:
 def _row(table: Table, span: Span, gone: bool, last: int) -> str:
     # The script shows the rows of one version, at first of the last one: those of others are not even laid out.
     out = "" if span.end is None or (gone and span.end == last) else ' class="out"'
-    line = "".join(f'<td class="{"text" if cell.startswith(chr(39)) else "number"}">{escape(cell)}</td>' for cell in cells(span.row))
+    line = "".join(f'<td class="{"text" if cell.startswith(chr(39)) else "number"}">{escape(cell)}</td>' for cell in map(cell_text, span.row))
     end = "now" if span.end is None else f"v{span.end}"
     return (
         f'<tr data-from="{span.start}" data-to="{"" if span.end is None else span.end}"{" data-gone" if gone else ""}{out}><td class="wrote"></td>'
@@ -108,7 +109,7 @@ def _life_id(table: str, identity: str) -> str:
 
 
 def _lives(history: History, table: Table, spans: list[Span], wanted: set[str], share: int, links: Links) -> str:
-    lives = table.lives(wanted) if table.history.answered else _lives_of_spans(history, spans, wanted)
+    lives = table.lives(wanted) if not table.history.refused else _lives_of_spans(history, spans, wanted)
     by_row: dict[str, list[Life]] = {}
     for life in lives:
         by_row.setdefault(life.identity, []).append(life)
@@ -128,11 +129,11 @@ def _lives(history: History, table: Table, spans: list[Span], wanted: set[str], 
 def _lives_of_spans(history: History, spans: list[Span], wanted: set[str]) -> list[Life]:
     """The lives of rows by their versions alone, where HISTORY is refused."""
     out: list[Life] = []
-    before = None
+    before: Span | None = None
     for span, gone in zip(spans, deletions(spans)):
         if span.identity in wanted:
-            continued = before and before.identity == span.identity and before.end == span.start
-            out.append(Life(span.identity, span.start, history.makers.get(span.start, 0), 0, before.row if continued else None, span.row))
+            same = before if before and before.identity == span.identity and before.end == span.start else None
+            out.append(Life(span.identity, span.start, history.makers.get(span.start, 0), 0, same.row if same else None, span.row))
             if gone and span.end is not None:
                 out.append(Life(span.identity, span.end, history.makers.get(span.end, 0), 0, span.row, None))
         before = span
@@ -148,7 +149,7 @@ def _life(table: Table, identity: str, lines: list[Life], shown: int, links: Lin
         f"<td>→ {row_or_none(it.after)}</td><td>{_came_from(table, it, links)}</td></tr>"
         for it in lines[len(lines) - shown :]
     )
-    left = cut(len(lines) - shown, "line", f"HISTORY OF {table.name}" if table.history.answered else table.versions.question)
+    left = cut(len(lines) - shown, "line", f"HISTORY OF {table.name}" if not table.history.refused else table.versions.question)
     return (
         f'<div class="life" id="{key}" tabindex="-1" role="group" aria-label="life of row {escape(table.name)} {escape(identity)}">'
         f'<h4>{escape(table.name)} {escape(identity)}</h4><div class="wide"><table class="changes"><thead><tr>{head}</tr></thead>'

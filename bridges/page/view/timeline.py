@@ -42,7 +42,8 @@ class Timeline:
         """The column of each line. Where transactions behind the cut began there is a gap of one column."""
         shown = {it.number for it in self.shown}
         hidden = sorted(it.begin_line for it in self.history.transactions if it.number not in shown)
-        columns, at, seen = {}, 0, 0
+        columns: dict[int, float] = {}
+        at = seen = 0
         for line in lines:
             before = seen
             while seen < len(hidden) and hidden[seen] < line:
@@ -141,10 +142,10 @@ class Timeline:
         """What is written in a box, and the link that it is."""
         left, right = self.ends(it)
         top, width = self.y(it), right - left
-        fate = sign(it.kind, it.version, it.listed.fate)
+        fate = sign(it.kind, it.version, it.listed.became)
         level = it.listed.level if width > 122 else LEVELS[it.listed.level]
         short = fate if width > 34 + 7.4 * len(fate) else fate.split()[0]
-        label = f"transaction {it.number}, {it.listed.level}, begun at version {it.listed.begin}, {count(len(it.statements), 'statement')}, {it.listed.fate}"
+        label = f"transaction {it.number}, {it.listed.level}, begun at version {it.listed.begin}, {count(len(it.statements), 'statement')}, {it.listed.became}"
         return (
             f'<a href="#t{it.number}" class="tx {it.kind}" data-t="{it.number}" aria-label="{label}"><title>{label}</title>'
             f'<rect class="hit" x="{_at(left)}" y="{_at(top)}" width="{_at(width)}" height="{BOX}" rx="5"/>'

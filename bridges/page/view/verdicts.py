@@ -3,7 +3,7 @@
 from __future__ import annotations
 
 from .arrows import letter
-from .history import History
+from .history import History, refused
 from .markup import Links, count, escape, fold
 
 # The transactions of a serial order that are shown.
@@ -36,7 +36,7 @@ def _serial(history: History, links: Links) -> str:
     folded = fold("SERIAL", [serial])
     word = serial.head.partition(" ")[0]
     if word == "serial":
-        return _item("good", "✓", "As if one after another", _order(serial.lines, links) + folded)
+        return _item("good", "✓", "As if one after another", _order(list(serial.lines), links) + folded)
     if word == "cycle":
         steps = "".join(
             f'<li><span class="letter" aria-hidden="true">{letter(at)}</span> {links.to(edge.first)} before {links.to(edge.second)}: '
@@ -59,9 +59,9 @@ def _order(lines: list[str], links: Links) -> str:
 
 
 def _refused(history: History) -> str:
-    refused = [it for it in history.answers if it.refused and it is not history.serial]
-    if not refused:
+    found = [it for it in refused(history.answers) if it is not history.serial]
+    if not found:
         return ""
-    first = refused[:40]
-    more = f"<p>The first {len(first)} are in the fold.</p>" if len(first) < len(refused) else ""
-    return _item("bad", "!", f"Refused: {count(len(refused), 'question')}", more + fold("the questions and the refusals", first))
+    first = found[:40]
+    more = f"<p>The first {len(first)} are in the fold.</p>" if len(first) < len(found) else ""
+    return _item("bad", "!", f"Refused: {count(len(found), 'question')}", more + fold("the questions and the refusals", first))

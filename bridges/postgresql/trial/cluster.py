@@ -8,6 +8,7 @@ import subprocess
 import tempfile
 import time
 
+from . import extension
 from .protocol import Connection
 
 # Without indexes a statement reads whole tables. So under SERIALIZABLE the server knows of all reads that SERIAL counts: by an index,
@@ -33,7 +34,14 @@ log_timezone = 'UTC'
 timezone = 'UTC'
 deadlock_timeout = 50ms
 """
+PLAIN = """
+listen_addresses = ''
+unix_socket_directories = '{folder}'
+fsync = off
+"""
 SLOT = 'bridge'
+OTHERS = "backend_type = 'client backend' AND pid NOT IN (pg_backend_pid(), {})"
+UNLOGGED = '-c log_min_duration_statement=-1'
 CHANGES = f"SELECT data FROM pg_logical_slot_get_changes('{SLOT}', NULL, NULL, 'include-timestamp', 'on')"
 UNPRIVILEGED = ('postgres', 'nobody')           # whom root starts the server as
 
@@ -64,14 +72,18 @@ def as_unprivileged_user():
 class Cluster:
     """The server, as a context: it runs inside of the `with`, and is stopped and removed whatever ends that."""
 
-    def __init__(self):
+    def __init__(self, captures=False, is_plain=False):
+        self.is_plain = is_plain                        # as a server is installed, with no settings but where its socket is
+        self.settings = {}                              # what was set since the server started
+        self.captures = captures                        # whether it has the extension, if that can be built
         self.programs = programs_folder()
         self.folder = tempfile.mkdtemp(prefix='gprom-', dir='/tmp')     # the path of a socket may have 107 bytes
         self.data = f'{self.folder}/data'
-        user, self.prefix = as_unprivileged_user()
-        if user:
-            os.chown(self.folder, user.pw_uid, user.pw_gid)
-        self.read = 0                                   # how many bytes of the log have been taken
+        self.user, self.prefix = as_unprivileged_user()
+        if self.user:
+            os.chown(self.folder, self.user.pw_uid, self.user.pw_gid)
+        self.read = self.captured = 0                   # how many bytes of the log and of the capture have been taken
+        self.library, self.missing = None, ''           # of the extension, or why it could not be built
 
     def command(self, program, *arguments, environment=None):
         """Runs one of the server's programs as the user that the server belongs to, and gives its output."""
@@ -84,11 +96,17 @@ class Cluster:
     def __enter__(self):
         try:
             self.command('initdb', '-D', self.data, '-A', 'trust', '-U', 'postgres', '--locale=C', '-E', 'UTF8', '--no-sync')
+            if self.captures:
+                self.library, self.missing = extension.build(self.programs, f'{self.folder}/extension')
             with open(f'{self.data}/postgresql.conf', 'a', encoding='utf-8') as file:
-                file.write(SETTINGS.format(folder=self.folder))
+                file.write((PLAIN if self.is_plain else SETTINGS).format(folder=self.folder))
+                file.write(f"session_preload_libraries = '{self.library}'\n" if self.library else '')
             self.command('pg_ctl', '-D', self.data, '-w', '-t', '120', '-l', f'{self.folder}/start.log', 'start')
             self.control = self.connect()
-            self.control.execute(f"SELECT pg_create_logical_replication_slot('{SLOT}', 'test_decoding')")
+            unseen = f'{UNLOGGED} -c gprom_capture.enabled=off' if self.library else UNLOGGED
+            self.watcher = self.connect(options=unseen)
+            if not self.is_plain:
+                self.control.execute(f"SELECT pg_create_logical_replication_slot('{SLOT}', 'test_decoding')")
         except BaseException:
             self.remove()
             raise
@@ -107,9 +125,33 @@ class Cluster:
         shutil.rmtree(self.folder, ignore_errors=True)
         signal.signal(signal.SIGINT, before)
 
-    def connect(self):
+    def connect(self, **options):
         """A new session."""
-        return Connection(self.folder)
+        return Connection(self.folder, **options)
+
+    def use(self, settings):
+        """Gives the server these settings, which need no restart, and takes others back that were set so."""
+        if settings == self.settings:
+            return
+        for name in self.settings.keys() - settings.keys():
+            self.control.execute(f'ALTER SYSTEM RESET {name}')
+        for name, value in settings.items():
+            self.control.execute(f"ALTER SYSTEM SET {name} = '{value}'")
+        self.control.execute('SELECT pg_reload_conf()')
+        self.settings = settings
+        time.sleep(0.3)                                 # all processes of the server take them
+
+    def has_no(self, sessions):
+        """Whether no session of the server is as this condition on pg_stat_activity says. Nothing of this is in the log or the capture."""
+        return not self.watcher.execute(f'SELECT 1 FROM pg_stat_activity WHERE {sessions}').rows
+
+    def wait_for_sessions(self):
+        """Waits until the other sessions have ended. What a session did last is written when it ends."""
+        for _ in range(500):
+            if self.has_no(OTHERS.format(self.control.process)):
+                return
+            time.sleep(0.02)
+        raise TimeoutError('a session of the server does not end')
 
     def take_log(self, mark):
         """The CSV log since this was asked the last time. The collector writes it a little later than the statements end."""
@@ -128,3 +170,13 @@ class Cluster:
     def take_changes(self):
         """The lines of the slot since this was asked the last time."""
         return ''.join(data + '\n' for data, in self.control.execute(CHANGES).rows)
+
+    def take_capture(self):
+        """The lines of the capture since this was asked the last time, or None without the extension."""
+        if self.library is None:
+            return None
+        with open(f'{self.data}/gprom_capture.jsonl', 'rb') as opened:
+            opened.seek(self.captured)
+            text = opened.read()
+        self.captured += len(text)
+        return text

@@ -7,12 +7,13 @@ capitals in its DETAILs, as newer servers may write it, is no fault: `convert` h
 import collections
 import csv
 import filecmp
+import json
 import random
 import re
 import shutil
 from dataclasses import dataclass
 
-from .judge import MISSING, convert, verify
+from .judge import CAPTURE, MISSING, convert, verify
 from .workload import check as check_workload
 
 NUMBER = re.compile(r"'(?:[^']|'')*'|(?<![\w.])(\d+)(?!\w)")     # a text, or a number that stands outside of texts
@@ -33,6 +34,8 @@ class Mutation:
 def check(window, found, gprom, count, seed, made):
     """The faults that matter and that `verify` does not find, among this many in the script of a window. All go to `made`."""
     failures = check_workload(window, found)
+    if found.source is CAPTURE:
+        return failures + ([] if found.failures else without_a_line(window, random.Random(seed)))
     if found.failures or failures:
         return failures
     chosen = random.Random(seed)
@@ -77,8 +80,22 @@ def without_a_record(window, chosen):
     at = chosen.choice([at for at, session in enumerate(sessions) if session in sessions[:at] and session in sessions[at + 1:]])
     with open(window.path('cut.csv'), 'w', newline='', encoding='utf-8') as file:
         csv.writer(file).writerows(records[:at] + records[at + 1:])
-    noticed = any(MISSING in line for line in convert(window, 'cut.csv', 'cut'))
+    noticed = any(MISSING in line for line in convert(window, file='cut.csv', out='cut'))
     return [] if noticed else [f'that record {at + 1} of the log is missing is not noticed']
+
+
+def without_a_line(window, chosen):
+    """Takes a line out of the capture, between others of its session. Gives a line if `convert` does not notice it."""
+    with open(window.path(CAPTURE.file), encoding='utf-8') as file:
+        lines = file.read().splitlines(keepends=True)
+    numbers = collections.defaultdict(list)
+    for line in map(json.loads, lines):
+        numbers[line['p']].append(line['n'])
+    inner = [at for at, line in enumerate(map(json.loads, lines)) if min(numbers[line['p']]) < line['n'] < max(numbers[line['p']])]
+    at = chosen.choice(inner)
+    window.save('cut.jsonl', ''.join(lines[:at] + lines[at + 1:]))
+    noticed = any(MISSING in line for line in convert(window, CAPTURE, 'cut.jsonl', 'cut'))
+    return [] if noticed else [f'that line {at + 1} of the capture is missing is not noticed']
 
 
 def of_a_newer_server(window):
@@ -87,7 +104,7 @@ def of_a_newer_server(window):
         records = list(csv.reader(file))
     with open(window.path('newer.csv'), 'w', newline='', encoding='utf-8') as file:
         csv.writer(file).writerows([*record[:14], record[14][:1].upper() + record[14][1:], *record[15:]] for record in records)
-    convert(window, 'newer.csv', 'newer')
+    convert(window, file='newer.csv', out='newer')
     is_same = filecmp.cmp(window.path('out.script'), window.path('newer.script'), shallow=False)
     return [] if is_same else ['a DETAIL that begins with a capital makes another script']
 

@@ -15,9 +15,10 @@ TEXT_TYPES = (25, 1043)               # the OIDs of text and varchar
 
 @dataclass
 class Column:
-    """A column of a result: its name, and the OID of its type."""
+    """A column of a result: its name, the OID of its type, and the modifier of the type, -1 for none."""
     name: str
     type: int
+    modifier: int = -1
 
 
 @dataclass
@@ -40,14 +41,14 @@ class ServerError(RuntimeError):
 class Connection:
     """A session of the server. Between `send` and `receive` the statement runs, or waits for a lock."""
 
-    def __init__(self, folder, user='postgres', database='postgres', port=5432):
+    def __init__(self, folder, user='postgres', database='postgres', port=5432, **more):
         self.socket = socket.socket(socket.AF_UNIX)
         self.socket.connect(f'{folder}/.s.PGSQL.{port}')
         self.stream = self.socket.makefile('rb')
         self.prepared = {}
         self.process = 0
         self.busy = False
-        options = b''.join(text.encode() + b'\0' for text in ('user', user, 'database', database, ''))
+        options = b''.join(text.encode() + b'\0' for text in ('user', user, 'database', database, *(part for pair in more.items() for part in pair), ''))
         self.socket.sendall(struct.pack('!ii', len(options) + 8, PROTOCOL_VERSION) + options)
         self.receive()
 
@@ -155,8 +156,8 @@ def columns_of(body):
     columns, at = [], 2
     for _ in range(struct.unpack('!h', body[:2])[0]):
         end = body.index(b'\0', at)
-        _, _, kind, _, _, _ = struct.unpack('!ihihih', body[end + 1:end + 19])
-        columns.append(Column(body[at:end].decode(), kind))
+        _, _, kind, _, modifier, _ = struct.unpack('!ihihih', body[end + 1:end + 19])
+        columns.append(Column(body[at:end].decode(), kind, modifier))
         at = end + 19
     return columns
 

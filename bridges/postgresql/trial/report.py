@@ -7,9 +7,9 @@ import tempfile
 import threading
 from collections.abc import Callable
 from concurrent.futures import ThreadPoolExecutor
-from dataclasses import dataclass
+from dataclasses import dataclass, field
 
-from .judge import Judgement, judge
+from .judge import CAPTURE, LOG, judge, sources_of
 from .window import Window, record
 
 
@@ -23,6 +23,8 @@ class Trial:
     check: Callable
     default: str = 'read committed'                     # default_transaction_isolation of the server
     repeat: str = ''                                    # the command that makes this window again
+    settings: dict = field(default_factory=dict)        # of the server, while the window is recorded
+    sources: tuple = (LOG, CAPTURE)                     # what scripts are made of
 
 
 class Report:
@@ -52,6 +54,7 @@ class Report:
         folder = tempfile.mkdtemp(prefix=re.sub(r'\W+', '-', trial.name.lower()) + '-', dir=self.folder)
         window = Window(folder, trial.default)
         try:
+            cluster.use(trial.settings)
             record(cluster, window, trial.setup, trial.work)
             self.later(self.judge, trial, window)
         except RuntimeError as fault:
@@ -62,20 +65,27 @@ class Report:
         self.waiting.append(self.pool.submit(work, *arguments))
 
     def judge(self, trial, window):
-        """Judges a window and counts it. Its files stay if something failed."""
-        found, failures = Judgement(), []
-        try:
-            found = judge(window, self.gprom)
-            failures = found.failures + trial.check(window, found)
-        except RuntimeError as fault:
-            failures.append(str(fault))
+        """Judges a window by each source, and counts it. Its files stay if something failed."""
+        failures = []
+        for source in sources_of(window):
+            if source in trial.sources:
+                failures += [f'by {source.name}: {failure}' for failure in self.judge_by(trial, window, source)]
         if failures:
             failures.append(f'its files are in {window.folder}' + (f'; repeat with {trial.repeat}' if trial.repeat else ''))
         elif not self.keep:
             shutil.rmtree(window.folder)
-        with self.lock:
-            self.counts[trial.level] += found.counts() + collections.Counter(runs=1, transactions=len(found.verdicts))
         self.count(trial.name, failures)
+
+    def judge_by(self, trial, window, source):
+        """The failures of a window by one source."""
+        try:
+            found = judge(window, self.gprom, source)
+            failures = found.failures + trial.check(window, found)
+        except RuntimeError as fault:
+            return [str(fault)]
+        with self.lock:
+            self.counts[f'{trial.level}, by {source.name}'] += found.counts() + collections.Counter(runs=1, transactions=len(found.verdicts))
+        return failures
 
     def count(self, name, failures):
         """Counts a test, and prints each of its failures."""

@@ -10,9 +10,8 @@ import os
 import re
 from dataclasses import dataclass
 
-from .judge import ask
+from .judge import LOG, ask
 from .starts import Starts
-from .workload import check as check_workload
 
 MOVED = 'serial with a start on the other side of a COMMIT'
 ANSWERS = ('serial', MOVED, 'cycle', 'undecided')
@@ -25,6 +24,7 @@ COMMITTED = re.compile(r'(\d+) .* at (\d+) statements \d+ committed as (\d+)')
 class Asked:
     """The answer for a run: one of ANSWERS, its lines, and of each committed transaction the version that it read first and its own."""
     level: str
+    source: str                                         # of its script: the log or the capture
     answer: str
     lines: list[str]
     versions: dict[str, tuple[int, int]]
@@ -48,12 +48,12 @@ class Asked:
 
 def check(window, found, gprom, level, made):
     """What is wrong with a run, and with the answer for it, which goes to `made`."""
-    (head, lines), (_, transactions) = ask(gprom, window.path('out.dump'), ['SERIAL', 'TRANSACTIONS'])
+    (head, lines), (_, transactions) = ask(gprom, window.path(f'{found.source.out}.dump'), ['SERIAL', 'TRANSACTIONS'])
     committed = [match.groups() for match in map(COMMITTED.fullmatch, transactions) if match]
-    asked = Asked(level, head.split()[0], lines, {number: (int(read), int(own)) for number, read, own in committed})
+    asked = Asked(level, found.source.name, head.split()[0], lines, {number: (int(read), int(own)) for number, read, own in committed})
     asked.is_covered = all(verdict.kind() == 'same' for verdict in found.verdicts if verdict.transaction in asked.cycle())
     made.append(asked)
-    return check_workload(window, found) + wrong_answer(asked, window, gprom)
+    return wrong_answer(asked, window, gprom)
 
 
 def wrong_answer(asked, window, gprom):
@@ -63,7 +63,8 @@ def wrong_answer(asked, window, gprom):
     if asked.answer == 'cycle' and (asked.level not in ('REPEATABLE READ', 'SERIALIZABLE') or asked.level == 'REPEATABLE READ' and asked.has_write_skew()):
         return []
     cycle = f"SERIAL: {asked.answer}: {'; '.join(asked.lines)}"
-    if asked.answer == 'cycle' and asked.level == 'SERIALIZABLE' and (moves := Starts(window, gprom).serial()):
+    is_guessed = asked.source == LOG.name and asked.level == 'SERIALIZABLE'
+    if asked.answer == 'cycle' and is_guessed and (moves := Starts(window, gprom).serial()):
         print(f"{os.path.basename(window.folder)}: {cycle}; serial, if {' and '.join(moves)}", flush=True)
         asked.answer = MOVED
         return []
@@ -71,11 +72,11 @@ def wrong_answer(asked, window, gprom):
 
 
 def summary(made):
-    """How often each answer was given, by level, as lines."""
-    for level in sorted({asked.level for asked in made}):
-        of_level = [asked for asked in made if asked.level == level]
+    """How often each answer was given, by level and source, as lines."""
+    for level, source in sorted({(asked.level, asked.source) for asked in made}):
+        of_level = [asked for asked in made if (asked.level, asked.source) == (level, source)]
         counts = collections.Counter(asked.answer for asked in of_level)
         parts = [f'{counts[answer]} {answer}' for answer in ANSWERS if counts[answer]]
         if counts['cycle']:
             parts.append(f"{sum(asked.answer == 'cycle' and asked.is_covered for asked in of_level)} of the cycles of covered transactions alone")
-        yield f"SERIAL, {level}: {', '.join(parts)}"
+        yield f"SERIAL, {level}, by {source}: {', '.join(parts)}"

@@ -1,11 +1,18 @@
 """A window of a server's life: what a user keeps of it for `convert`, and what the tables have at its end."""
+import hashlib
 import os
-from dataclasses import dataclass, field
+from dataclasses import dataclass, field, replace
 
 EVERYTHING = 'DROP SCHEMA public CASCADE; CREATE SCHEMA public'
-TABLES = "SELECT relname, oid::regclass FROM pg_class WHERE relkind = 'r' AND relnamespace = 'public'::regnamespace ORDER BY relname"
-COLUMNS = """SELECT quote_ident(attname), format_type(atttypid, NULL), CASE WHEN atttypmod > 0 THEN (atttypmod - 4) & 65535 END
-             FROM pg_attribute WHERE attrelid = '{table}'::regclass AND attnum > 0 AND NOT attisdropped ORDER BY attnum"""
+TABLES = """SELECT relname, oid::regclass FROM pg_class
+            WHERE relkind IN ('r', 'p') AND NOT relispartition AND relnamespace = 'public'::regnamespace ORDER BY relname"""
+PARTITIONS = "SELECT oid::regclass FROM pg_class WHERE relkind = 'r' AND relispartition"
+COLUMNS = """SELECT quote_ident(attname), format_type(base, NULL), CASE WHEN modifier > 0 THEN (modifier - 4) & 65535 END
+             FROM (SELECT attname, attnum, CASE typtype WHEN 'd' THEN typbasetype ELSE atttypid END AS base,
+                          CASE typtype WHEN 'd' THEN typtypmod ELSE atttypmod END AS modifier
+                   FROM pg_attribute JOIN pg_type ON pg_type.oid = atttypid
+                   WHERE attrelid = '{table}'::regclass AND attnum > 0 AND NOT attisdropped) AS found ORDER BY attnum"""
+LEFT_OUT = 'left out'                                   # said of a column in OUT.tsv
 INTEGERS = ('smallint', 'integer', 'bigint')
 
 
@@ -26,12 +33,28 @@ class Table:
 
 
 @dataclass
+class Ended:
+    """The rows of a table at the end, as the server prints their cells."""
+    columns: list[Column]
+    rows: list[tuple]
+
+    def in_gprom(self, shape):
+        """The rows as gprom prints them, where `shape` says of a column how many decimals it has, or that it is left out.
+
+        How a value is written in gprom is said once more here, as a check of what `convert` says.
+        """
+        kept = [(at, replace(column, decimals=shape.get(column.name, column.decimals))) for at, column in enumerate(self.columns)
+                if shape.get(column.name) != LEFT_OUT]
+        return [', '.join(cell_of(row[at], column) for at, column in kept) for row in self.rows]
+
+
+@dataclass
 class Window:
     """The files of a window, in a folder of its own."""
     folder: str
     level: str = 'read committed'                       # default_transaction_isolation of the server
     started: list[str] = field(default_factory=list)    # the tables that have rows when the window begins
-    ended: dict[str, list[str]] = field(default_factory=dict)    # the rows of each table at the end, unless it has other columns then
+    ended: dict[str, Ended] = field(default_factory=dict)    # the rows of each table at the end, unless it has other columns then
 
     def path(self, name):
         """A file of the window."""
@@ -49,17 +72,24 @@ def record(cluster, window, setup, work):
     control.execute(EVERYTHING)
     control.execute(setup)
     tables = [Table(name, quoted, columns_of(control, quoted)) for name, quoted in control.execute(TABLES).rows]
+    for name, in control.execute(PARTITIONS).rows:
+        control.execute(f'ALTER TABLE {name} REPLICA IDENTITY FULL')
     for table in tables:
         control.execute(f'ALTER TABLE {table.quoted} REPLICA IDENTITY FULL')
-        rows = control.execute(f"COPY {table.quoted} TO STDOUT WITH (FORMAT csv, HEADER, NULL '\\N')").copied
+        rows = control.execute(f"COPY (SELECT * FROM {table.quoted}) TO STDOUT WITH (FORMAT csv, HEADER, NULL '\\N')").copied
         if rows.count(b'\n') > 1:
             window.started.append(table.name)
             window.save(f'{table.name}.csv', rows)
     window.save('tables.sql', cluster.command('pg_dump', '-h', cluster.folder, '-U', 'postgres', '--schema-only', 'postgres'))
+    cluster.wait_for_sessions()
     cluster.take_changes()
     cluster.take_log('the window begins')
+    cluster.take_capture()
     work(cluster)
+    cluster.wait_for_sessions()
     window.save('log.csv', cluster.take_log('the window ends'))
+    if captured := cluster.take_capture():
+        window.save('capture.jsonl', captured)
     window.save('slot.txt', cluster.take_changes())
     window.ended = {table.name: rows_of(control, table) for table in tables if columns_of(control, table.quoted) == table.columns}
 
@@ -71,17 +101,20 @@ def columns_of(control, table):
 
 
 def rows_of(control, table):
-    """The rows of a table as gprom prints them, in order, without those that no table of gprom can hold.
-
-    How a value is written in gprom is said once more here, as a check of what `convert` says.
-    """
+    """The rows of a table."""
     rows = control.execute(f"SELECT {', '.join(column.name for column in table.columns)} FROM {table.quoted}").rows
-    return sorted(', '.join(map(cell_of, row, table.columns)) for row in rows if all(map(fits, row)))
+    return Ended(table.columns, rows)
 
 
 def fits(cell):
     """Whether a text of gprom can hold this."""
-    return cell is None or len(cell.encode()) <= 255 and all(' ' <= character != '\x7f' for character in cell)
+    return len(cell.encode()) <= 255 and all(' ' <= character and not '\x7f' <= character < '\xa0' for character in cell)
+
+
+def digest_of(cell):
+    """What stands for a text that does not fit."""
+    head = ''.join(character if fits(character) else ' ' for character in cell).encode()[:100].decode(errors='ignore')
+    return f'{head} .. [{len(cell)} characters, sha256 {hashlib.sha256(cell.encode()).hexdigest()[:32]}]'
 
 
 def cell_of(cell, column):
@@ -91,7 +124,8 @@ def cell_of(cell, column):
     if column.type in INTEGERS:
         return cell
     if column.type == 'numeric' and column.decimals is not None:
-        return str(int(cell.replace('.', '')))
+        whole, _, decimals = cell.partition('.')
+        return str(int(whole + decimals[:column.decimals].ljust(column.decimals, '0')))
     if column.type == 'boolean':
         return '1' if cell == 't' else '0'
-    return "'" + cell.replace("'", "''") + "'"
+    return "'" + (cell if fits(cell) else digest_of(cell)).replace("'", "''") + "'"

@@ -1,0 +1,264 @@
+"""Which transaction made a commit whose xid is in no record of the log.
+
+The record of a statement that is a transaction by itself is written behind its commit, and then has no xid. Such a commit may be that of each
+session that ran a statement then. What tells them apart: the record was written behind the commit, and its statement began before it; the
+statement writes the row images; `now()` among them is the time at which it began; and the commits of a session stand in the order of its
+statements, each of which commits once, but for a CALL or a DO.
+
+All of this is asked of the commits together: `Owners` gives them transactions in the cheapest way, where a cost is a sign that something is
+wrong. If the cheapest ways differ in who made a commit, nothing tells, and the transactions that may have made it are in doubt.
+"""
+from collections import defaultdict
+from dataclasses import dataclass, replace
+from itertools import accumulate
+
+from .csvlog import HALF
+from .evaluate import changes
+from .fits import of_statement
+from .history import SLACK
+from .places import Search
+from .steps import reaction
+from .times import to_seconds
+from .versions import Versions
+
+LATE = 0.0003          # seconds that a server may take from the duration of a message to the time of its record, without being held up
+NARROWED, HELD_UP, WEAK, UNSEEN = 1, 1, 3, 4            # costs: narrowed or set off something, a record late, other rows, by a built-in function
+UNUSED, UNLOGGED = 10, 20                               # a statement that writes made no commit; a commit without a record
+STATES, MARGIN, SURE = 200, 6, 50       # how many States are followed, and how much worse than the best; how many versions are tried to find out that a statement writes
+
+
+@dataclass
+class State:
+    """A way to give the commits so far their transactions, the cheapest of those that go on alike."""
+    cost: float
+    far: float                      # how far the records are from their commits, which decides among equal costs
+    before: object = None           # the State before it
+    owner: object = None            # of the last commit
+
+    def worth(self):
+        return self.cost, self.far
+
+
+class Queue:
+    """The transactions of a session that may have a commit, in order."""
+
+    def __init__(self, last, known, writes):
+        self.last, self.ends = last, set(last)        # the last commits that may be theirs
+        self.known = list(accumulate(known, initial=0))
+        self.writing = list(accumulate(writes, initial=0))
+
+    def unused(self, first, own):
+        """How many transactions that surely wrote are left without a commit, from one on to another one. None if that is no way to go on."""
+        return None if own < first or self.known[own] > self.known[first] else self.writing[own] - self.writing[first]
+
+    def passed(self, first, at):
+        """The first transaction, from one on, that may make a commit from `at` on; and how many before it surely wrote."""
+        there = first
+        while there < len(self.last) and self.last[there] < at:
+            there += 1
+        return there, self.writing[there] - self.writing[first]
+
+
+class Owners:
+    """`find` gives transactions their commits. Those with an xid have them before."""
+
+    def __init__(self, tables, start, transactions, commits):
+        self.tables, self.transactions, self.commits = tables, transactions, commits
+        self.versions, self.times = Versions(tables, start), []
+        self.known = {t.commit: t for t in transactions if t.commit is not None}
+        self.ways = {}                                # commit -> [(transaction, cost)]
+        self.unnamed = [t for t in transactions if is_unnamed(t)]
+
+    def find(self):
+        if not self.unnamed or not self.look():
+            return
+        queues = defaultdict(list)                    # the transactions of each session that may have a commit, in order
+        for transaction in self.transactions:
+            if transaction.commit is not None or is_unnamed(transaction):
+                queues[transaction.session].append(transaction)
+        last = {}                                     # transaction -> the last commit that may be its own
+        for at in range(len(self.commits)):
+            last |= {id(owner): at for owner, _ in self.choices(at) if owner is not None}
+        self.queues = [Queue([last.get(id(t), -1) for t in queue], [t.commit is not None for t in queue], [self.surely_writes(t) for t in queue])
+                       for queue in queues.values()]
+        self.places = {id(t): (number, at) for number, queue in enumerate(queues.values()) for at, t in enumerate(queue)}
+        self.choose(self.layers())
+
+    # What each may have made
+
+    def look(self):
+        """Finds the transactions that may have made each commit without a name. False if there is no such commit."""
+        for at, commit in enumerate(self.commits):
+            self.times.append(max(commit.time, self.times[-1] if self.times else 0.0))
+            self.versions.expand(commit)
+            if commit.tables and at not in self.known:
+                costs = ((t, self.cost(t, commit, at)) for t in self.unnamed)
+                self.ways[at] = [(t, cost) for t, cost in costs if cost is not None]
+            self.versions.publish(commit)
+        return any(self.ways.values())
+
+    def cost(self, transaction, commit, at):
+        """What speaks against a transaction as the one that made a commit, or None if it cannot have."""
+        late = transaction.end + HALF - commit.time, commit.time - transaction.started + HALF
+        if min(late) < -SLACK or transaction.commit is not None and transaction.commit < at:
+            return None
+        clock = self.clock(transaction, commit)
+        rows = None if clock is None else self.rows(transaction, commit, at)
+        return None if rows is None else rows + clock + HELD_UP * (min(late) < 0)
+
+    @staticmethod
+    def clock(transaction, commit):
+        """The cost of the times in the images: when the transaction began is that of its message, to a millisecond."""
+        cost = 0
+        for name, at, is_new in {place for step in transaction.steps for place in step.clocks}:
+            for row in (new for table, old, new in commit.changes if table == name and new is not None and (old is None) == is_new):
+                early = transaction.started - to_seconds(row[at].removesuffix('+00')) if row[at] else None
+                if early is None or not -HALF - 2e-6 <= early <= HALF + SLACK:
+                    return None
+                cost = max(cost, HELD_UP * (early > HALF + LATE))
+        return cost
+
+    def rows(self, transaction, commit, at):
+        """The cost of the images, or None if the statements cannot have written them."""
+        steps = transaction.writes()
+        if all(step.harmless for step in steps):
+            return UNSEEN
+        if not transaction.reason and not commit.reason:
+            transaction.lowest = 0
+            search = Search(self.tables, self.versions, self.times, transaction, commit.changes, at)
+            patched = {number: step.target for number, step in enumerate(steps) if step.statement is None}
+            if search.places(patched, False) is not None:
+                return 0 if all(step.statement or step.target.table for step in steps) else NARROWED
+            if search.places(patched, True) is not None:
+                return NARROWED
+        may_be = transaction.may_write(commit.tables) and not all(self.refutes(step, commit) for step in steps)
+        return (NARROWED if any(self.reacts(step) for step in steps) else WEAK) if may_be else None
+
+    def reacts(self, step):
+        """Whether a statement may have written other rows than its text says."""
+        return step.statement is not None and bool(reaction(step, self.tables))
+
+    def refutes(self, step, commit):
+        """Whether a statement surely wrote other images than these."""
+        name = step.statement.table if step.statement else step.target.table
+        if name not in self.tables or commit.reason:
+            return False
+        mine = [change for change in commit.changes if change[0] == name]
+        fits = of_statement(step.statement, self.tables) if step.statement else step.target.test or (lambda *_: True)
+        if self.tables[name].rewrites:
+            return bool(mine) and not any(fits(old, new) for _, old, new in mine)
+        return not mine or not any(fits(old, new) for _, old, new in mine)
+
+    def surely_writes(self, transaction):
+        """Whether a transaction without a commit wrote rows, whichever version it read."""
+        for step in transaction.steps if transaction.commit is None else ():
+            statement = step.statement
+            if not step.writes or statement is None or statement.deferred or self.tables[statement.table].rewrites:
+                continue
+            if statement.kind == 'insert':
+                return True
+            search = Search(self.tables, self.versions, self.times, transaction, [], self.versions.newest)
+            near = search.near(transaction.started, transaction.end, 0)
+            if len(near) <= SURE and all(changes(statement, self.tables, lambda name, version=version: self.versions.state(name, version)) for version in near):
+                return True
+        return False
+
+    # All together
+
+    def layers(self):
+        """For each number of commits the States, by how far each session is in its transactions."""
+        place, _ = self.passed(tuple(0 for _ in self.queues), 0, range(len(self.queues)))
+        layers, self.edges = [{place: State(0, 0.0)}], []
+        for at, commit in enumerate(self.commits):
+            ways = [(owner, cost, distance(commit, owner) if owner else 0.0, *self.places.get(id(owner), (None, 0))) for owner, cost in self.choices(at)]
+            ending = {number for number, queue in enumerate(self.queues) if at in queue.ends}
+            found, edges = {}, []
+            for place, state in layers[-1].items():
+                for owner, cost, far, number, own in ways:
+                    after, unused = place, 0
+                    if number is not None:
+                        if (unused := self.queues[number].unused(place[number], own)) is None:
+                            continue
+                        after = *place[:number], own if owner.commits_itself else own + 1, *place[number + 1:]
+                    then, more = self.passed(after, at + 1, ending if number is None else ending | {number})
+                    cost_of_all = cost + UNUSED * (unused + more)
+                    edges.append((place, then, owner, cost_of_all))
+                    worth = state.cost + cost_of_all, state.far + far
+                    if then not in found or worth < found[then].worth():
+                        found[then] = State(*worth, state, owner)
+            least = min(state.cost for state in found.values())
+            kept = sorted(found.items(), key=lambda item: item[1].worth())[:STATES]
+            layers.append({then: state for then, state in kept if state.cost <= least + MARGIN})
+            self.edges.append([edge for edge in edges if edge[1] in layers[-1]])
+        return layers
+
+    def choices(self, at):
+        """The transactions that a commit may be given, with their costs."""
+        if at in self.known:
+            return [(self.known[at], 0)]
+        return [*self.ways.get(at, ()), (None, UNLOGGED if self.commits[at].tables else 0)]
+
+    def passed(self, place, at, numbers):
+        """How far the sessions are, where some of them pass the transactions that can make no commit from one on; and how many wrote for nothing."""
+        unused = 0
+        for number in numbers:
+            there, more = self.queues[number].passed(place[number], at)
+            if there != place[number]:
+                place, unused = (*place[:number], there, *place[number + 1:]), unused + more
+        return place, unused
+
+    def choose(self, layers):
+        """Gives the commits their transactions, and says of which there is a doubt."""
+        chosen, state = defaultdict(list), min(layers[-1].values(), key=State.worth)
+        best, at = state.cost, len(self.commits)
+        while state.before is not None:
+            at -= 1
+            if state.owner is not None:
+                chosen[id(state.owner)].insert(0, at)
+            state = state.before
+        self.note_doubts(layers, best)
+        for transaction in list(self.transactions):
+            if id(transaction) in chosen:
+                self.give(transaction, chosen[id(transaction)])
+
+    def note_doubts(self, layers, best):
+        """Notes the transactions of which each may have made a commit, by ways that are equally cheap."""
+        rest = dict.fromkeys(layers[-1], 0)           # the costs from there on
+        for at in range(len(self.commits) - 1, -1, -1):
+            costs, owners = {}, {}
+            for place, then, owner, cost in self.edges[at]:
+                if then in rest and place in layers[at]:
+                    total = cost + rest[then]
+                    costs[place] = min(total, costs.get(place, total))
+                    if layers[at][place].cost + total <= best and owner is not None:
+                        owners[id(owner)] = owner
+            rest = costs
+            if len({self.told(owner) for owner in owners.values()}) > 1:
+                lines = sorted(owner.line for owner in owners.values())
+                for owner in owners.values():
+                    owner.doubt = owner.doubt or f'log lines {", ".join(map(str, lines))}: which of them committed xid {self.commits[at].xid} is not known'
+
+    @staticmethod
+    def told(transaction):
+        """What is told of the transaction of a commit: who it is of, and what it ran."""
+        return transaction.session, tuple(step.statement.text() if step.statement and not step.statement.needs_images else step.line
+                                          for step in transaction.steps)
+
+    def give(self, transaction, commits):
+        """Gives a transaction its commit. A CALL or a DO that made several becomes as many transactions."""
+        at = self.transactions.index(transaction)
+        parts = [replace(transaction, steps=[replace(step) for step in transaction.steps], unsaid=[], literals=[]) for _ in commits[1:]]
+        for part, commit in zip([transaction, *parts], commits):
+            part.commit, part.xid = commit, self.commits[commit].xid
+        self.transactions[at + 1:at + 1] = parts
+
+
+def is_unnamed(transaction):
+    """Whether a transaction committed, may have written rows, and made commits that the log does not name."""
+    return (transaction.fate == 'committed' and not transaction.exact and transaction.started is not None and bool(transaction.writes()) and
+            (transaction.commit is None and transaction.xid == '0' or transaction.commits_itself))
+
+
+def distance(commit, transaction):
+    """The seconds between a commit and the millisecond of the log in which the record of its message was written."""
+    return max(abs(commit.time - transaction.end) - HALF, 0.0)

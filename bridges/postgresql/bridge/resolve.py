@@ -1,0 +1,198 @@
+"""Statements that gprom's dialect has no words for, and whose row images say what they did.
+
+An UPDATE or DELETE with a condition that gprom cannot express, such as a subquery, stands as one that names the rows that it wrote. An INSERT
+with ON CONFLICT stands as INSERT of the rows that were not there, and UPDATE of those that were; a COPY is an INSERT of its rows. What an
+UPDATE computed stays a term, so it has to give the row images; a value that comes from elsewhere, such as from a trigger or another table,
+is taken from them.
+"""
+from dataclasses import dataclass, replace
+
+from .evaluate import cells, value
+from .terms import HOLE, Statement, chain, inserts, row_is
+
+
+@dataclass
+class Resolved:
+    """`written` has (identity or None, old row or None, new row or None) in the order of the images; `parts` the statements that write them."""
+    written: list
+    parts: list
+    taken: list                     # the places of the images among those that were offered
+
+    def over_limit(self):
+        return any(part.over_limit() for part in self.parts)
+
+
+def resolve(statement, table, rows, images, most=None, skips=False):
+    """The Resolved of a statement over `rows` (identity -> row), or None if it cannot have written such images.
+
+    `images` are (place, old row or None, new row or None), of which it takes `most`, or as many as it may have written: those in front, or
+    any where it `skips` others.
+    """
+    way = {'upsert': upsert, 'insert': copied}.get(statement.kind, chosen)
+    found = way(statement, table, rows, images, most, skips)
+    return None if found is None or most not in (None, len(found.written)) or found.over_limit() else found
+
+
+# UPDATE and DELETE
+
+def chosen(statement, table, rows, images, most, skips):
+    """An UPDATE or DELETE of the rows that the images name."""
+    there = {}
+    for identity, row in rows.items():
+        there.setdefault(row, []).append(identity)
+    written, taken, groups = [], [], {}
+    for place, old, new in images:
+        if len(written) == most:
+            break
+        given = values_of(statement, table, old, new) if there.get(old) else None
+        if given is None:
+            if skips:
+                continue
+            break
+        written.append((there[old].pop(0), old, new))
+        taken.append(place)
+        groups.setdefault(given, []).append(old)
+    twins = {old for _, old, _ in written if there[old]}
+    if twins and not table.key:                       # no condition tells the rows that were written from those that were not
+        return None
+    names = table.key or [column.name for column in table.columns]
+    parts = [narrowed(statement, table, given, olds, names) for given, olds in groups.items()]
+    return Resolved(written, parts, taken)
+
+
+def values_of(statement, table, old, new):
+    """The (column, cell) that an UPDATE took from elsewhere to make this image, or None if it is no image of the statement."""
+    if old is None or (new is None) != (statement.kind == 'delete'):
+        return None
+    named = cells(table, old)
+    if statement.where is not None and value(statement.where, named) is not True:
+        return None
+    if new is None:
+        return ()
+    sets, given = dict(statement.sets), []
+    for column, before, after in zip(table.columns, old, new):
+        term = sets.get(column.name)
+        if term is HOLE or term is None and column.name in statement.free and before != after:
+            given.append((column.name, after))
+        elif after != (before if term is None else value(term, named)):
+            return None
+    return tuple(given)
+
+
+def narrowed(statement, table, given, olds, names):
+    """The statement on these rows alone, with the values that it took from elsewhere."""
+    condition = chain('or', [row_is(table, old, names) for old in dict.fromkeys(olds)])
+    sets = None
+    if statement.kind == 'update':
+        kept = [(column, term) for column, term in statement.sets if term is not HOLE]
+        sets = kept + [(column, ('literal', cell)) for column, cell in given]
+    return replace(statement, sets=sets, where=('and', statement.where, condition) if statement.where else condition, open='', free=frozenset())
+
+
+# COPY
+
+def copied(statement, table, rows, images, most, skips):
+    """An INSERT of the rows that a COPY brought."""
+    found = []
+    for place, old, new in images:
+        if len(found) == most or old is not None and not skips:
+            break
+        if old is None:
+            found.append((place, new))
+    return Resolved([(None, None, new) for _, new in found], inserts(table.name, [new for _, new in found]), [place for place, _ in found])
+
+
+# INSERT with ON CONFLICT
+
+def upsert(statement, table, rows, images, most, skips):
+    """INSERT of the tuples whose keys are not there, and UPDATE of the rows that have them."""
+    rows, offered = dict(rows), list(images)
+    written, taken, new_rows, updates = [], [], [], []
+    for at, given in enumerate(statement.rows):
+        identity = conflicting(statement, table, rows, given, offered)
+        if identity is None:
+            image = next((image for image in offered if image[1] is None and fits(given, image[2])), None)
+            if image is None and statement.sets is None:      # a key that is not known here, or a row that the window does not have
+                continue
+            if image is None:
+                return None
+            offered.remove(image)
+            taken.append(image[0])
+            written.append((None, None, image[2]))
+            new_rows.append(image[2])
+            rows[f'tuple {at}'] = image[2]
+            continue
+        row = rows[identity]
+        if statement.sets is None or not applies(statement, table, row, given):
+            continue
+        image = next((image for image in offered if image[1] == row and image[2] is not None), None)
+        sets = updated(statement, table, row, given, image[2]) if image else None
+        if sets is None:
+            return None
+        offered.remove(image)
+        taken.append(image[0])
+        written.append((identity, row, image[2]))
+        updates.append(Statement('update', table.name, sets=sets, where=row_is(table, row, table.key or statement.keys[0])))
+        rows[identity] = image[2]
+    if not skips and sorted(taken) != [image[0] for image in images[:len(taken)]]:
+        return None
+    return Resolved(written, inserts(table.name, new_rows) + updates, taken)
+
+
+def fits(given, new):
+    """Whether a tuple became this row. What the server computed may be anything."""
+    return all(cell is HOLE or cell == other for cell, other in zip(given, new))
+
+
+def conflicting(statement, table, rows, given, offered):
+    """The row that has the key of a tuple, by one of the keys. Where the server computed a part of the key, the row of the next image."""
+    for names in statement.keys:
+        places = [table.index(name) for name in names]
+        key = [given[at] for at in places]
+        if None in key:
+            continue
+        if HOLE in key:
+            old = next((old for _, old, new in offered if old is not None or fits(given, new)), None)
+            if old is None or not all(cell in (HOLE, old[at]) for at, cell in zip(places, key)):
+                continue
+            key = [old[at] for at in places]
+        for identity, row in rows.items():
+            if all(row[at] == cell for at, cell in zip(places, key)):
+                return identity
+    return None
+
+
+def applies(statement, table, row, given):
+    """Whether DO UPDATE .. WHERE is true of a row and a tuple."""
+    condition = statement.where and excluded(statement.where, table, given)
+    return condition is None or value(condition, cells(table, row)) is True
+
+
+def updated(statement, table, row, given, new):
+    """What DO UPDATE sets in a row, as terms over it; None if they do not make the image of it."""
+    sets, made = [], list(row)
+    for column, term in statement.sets:
+        at = table.index(column)
+        term = HOLE if term is HOLE else excluded(term, table, given)
+        term = ('literal', new[at]) if term is HOLE else term
+        if term is None:
+            return None
+        sets.append((column, term))
+        made[at] = value(term, cells(table, row))
+    for at, column in enumerate(table.columns):
+        if column.name in statement.free and column.name not in dict(sets) and made[at] != new[at]:
+            sets.append((column.name, ('literal', new[at])))
+            made[at] = new[at]
+    return sets if tuple(made) == new else None
+
+
+def excluded(term, table, given):
+    """A term over a row and the tuple (EXCLUDED) as one over the row; HOLE or None where the tuple's value is not known before the image."""
+    match term:
+        case ('column', 'excluded', name):
+            cell = given[table.index(name)]
+            return HOLE if cell is HOLE else ('literal', cell)
+        case tuple():
+            parts = [excluded(part, table, given) if isinstance(part, tuple) else part for part in term]
+            return None if any(part is HOLE or part is None for part, whole in zip(parts, term) if isinstance(whole, tuple)) else tuple(parts)
+    return term

@@ -1,0 +1,8 @@
+"""The shop as an application of Django."""
+from django.apps import AppConfig
+
+
+class ShopConfig(AppConfig):
+    """Finds `models`."""
+    name = 'trial.orm'
+    label = 'shop'
