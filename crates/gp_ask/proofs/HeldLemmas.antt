@@ -36,6 +36,7 @@ use Rattle.gp_dump.specs.Dumps.{Dump, dump_of, spans_in_order}
 use Rattle.gp_dump.specs.WholeDumps.{dump_with}
 use Rattle.gp_history.specs.Agreement.{agree}
 use Rattle.gp_history.specs.Agreement.{occurrence}
+use Rattle.gp_ask.specs.Changes.{commit_changes}
 use Rattle.gp_ask.specs.declared.answered.Answered.{Answered}
 use Rattle.gp_ask.specs.declared.answered.Answered.TheVariants.{Checked, Lines, Listed, Program, Refused, Rows}
 use Rattle.gp_ask.specs.declared.answered.Heading.TheVariants.{Changes}

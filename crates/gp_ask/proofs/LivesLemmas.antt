@@ -40,6 +40,7 @@ use Rattle.gp_machine.specs.Runs.{run_before}
 use Rattle.gp_machine.specs.SeenRows.{HaveDifferentIdentities, same_row}
 use Rattle.gp_machine.specs.State.{State}
 use Rattle.gp_versions.specs.declared.span.Span.{Span}
+use Rattle.gp_ask.specs.declared.answered.Answered.{Answered}
 use Rattle.gp_ask.specs.declared.answered.Answered.TheVariants.{Lines, Refused}
 use Rattle.gp_ask.specs.declared.answered.Heading.TheVariants.{History}
 use Rattle.gp_ask.specs.Asking.{table_spans}

@@ -11,7 +11,6 @@ use Rattle.gp_machine.specs.SeenRows.{HaveDifferentIdentities, same_row}
 use Rattle.gp_versions.proofs.SameLemmas.{same-exact, same-itself}
 use Rattle.gp_ask.specs.SerialHistories.{cells_in}
 use Rattle.gp_ask.specs.ShownWrites.{AreCells, HasCells, HasRow}
-use Rattle.gp_ask.proofs.WrittenLines.{own-cells}
 use Rattle.gp_ask.proofs.ChangedLines.{turned-rows}
 
 module _ {M : Type 0} where

@@ -15,3 +15,8 @@ pub returns-in-History-clause-answered : goal.returns-in-History-clause-answered
 returns-in-History-clause-answered c =
     subst (λ (question : Question). IfOk c.history_answer.result (λ answered. answered ≡ computed_answer (dump_view c.args.dump.now) (question_view question)))
     (sym c.in-History.is) c.history_answer.ensures
+
+pub returns-in-Changes-clause-answered : goal.returns-in-Changes-clause-answered
+returns-in-Changes-clause-answered c =
+    subst (λ (question : Question). IfOk c.changes_answer.result (λ answered. answered ≡ computed_answer (dump_view c.args.dump.now) (question_view question)))
+    (sym c.in-Changes.is) c.changes_answer.ensures
