@@ -55,9 +55,9 @@ def chosen(statement, table, rows, images, most, skips):
     twins = {old for _, old, _ in written if there[old]}
     if twins and not table.key:                       # no condition tells the rows that were written from those that were not
         return None
-    names = table.key or [column.name for column in table.columns]
-    parts = [narrowed(statement, table, given, olds, names) for given, olds in groups.items()]
-    return Resolved(written, parts, taken)
+    parts = [part for given, olds in groups.items() for part in divided(statement, table, given, list(dict.fromkeys(olds)))]
+    keeps_keys = table.key and not any(name in table.key for name, _ in statement.sets or ())
+    return Resolved(written, parts, taken) if len(parts) < 2 or keeps_keys else None       # else a part might write a row of the one before
 
 
 def values_of(statement, table, old, new):
@@ -79,9 +79,19 @@ def values_of(statement, table, old, new):
     return tuple(given)
 
 
-def narrowed(statement, table, given, olds, names):
+def divided(statement, table, given, olds):
+    """The statement on these rows, as often as their conditions need."""
+    whole = narrowed(statement, table, given, olds)
+    if len(olds) == 1 or not whole.over_limit():
+        return [whole]
+    middle = len(olds) // 2
+    return divided(statement, table, given, olds[:middle]) + divided(statement, table, given, olds[middle:])
+
+
+def narrowed(statement, table, given, olds):
     """The statement on these rows alone, with the values that it took from elsewhere."""
-    condition = chain('or', [row_is(table, old, names) for old in dict.fromkeys(olds)])
+    names = table.key or [column.name for column in table.columns]
+    condition = chain('or', [row_is(table, old, names) for old in olds])
     sets = None
     if statement.kind == 'update':
         kept = [(column, term) for column, term in statement.sets if term is not HOLE]
