@@ -288,7 +288,7 @@ CASES = [
          ["INSERT INTO sale VALUES (3, '2026-01-20', 30), (4, '2026-03-01', 40)", 'UPDATE sale SET n = n + 1 WHERE id > 1', 'UPDATE sale_1 SET n = 0',
           "INSERT INTO sale_2 (id, at, n) VALUES (5, '2026-05-05', 50)", 'SELECT * FROM sale_2', "UPDATE sale SET at = '2026-02-02' WHERE id = 1",
           'DELETE FROM sale WHERE n = 41', 'BEGIN', 'TRUNCATE sale', "INSERT INTO sale VALUES (6, '2026-01-01', 60)", 'COMMIT'],
-         'same, same, same, same, same, patched, same, same',
+         'same, same, same, same, same, same, same, same',
          {'AS OF 4 SELECT id, n FROM sale': ['1, 0', '2, 21', '3, 0', '4, 41'], 'AS OF 9 SELECT * FROM sale': ["6, '2026-01-01', 60"]}),
     Case('terms of constants', """
          CREATE TABLE task (id INTEGER PRIMARY KEY, n INTEGER, name TEXT, due TIMESTAMPTZ, day DATE);
