@@ -313,6 +313,11 @@ CASES = [
          'same, same',
          {'SAW 2 AFTER 1 SELECT bal FROM acct WHERE id = 1': ['100'], 'SAW 3 AFTER 1 SELECT bal FROM acct WHERE id = 1': ['120'],
           'SERIAL': ['1', '2', '3']}),
+    Case('an UPDATE that sets the time is refused', """
+         CREATE TABLE acct (id INTEGER PRIMARY KEY, bal INTEGER, at TIMESTAMP); INSERT INTO acct VALUES (1, 100, NULL), (2, 50, NULL);""",
+         ['BEGIN ISOLATION LEVEL REPEATABLE READ', 'UPDATE acct SET at = CURRENT_TIMESTAMP WHERE id = 2', 'b: UPDATE acct SET bal = 90 WHERE id = 1',
+          'UPDATE acct SET bal = 80, at = now() WHERE id = 1', 'ROLLBACK'],
+         'rolled back, same', {'CONFLICTS 2': ['acct 1.1.1 at 1 : 3 wrote it as 2']}),
     *write_skews(),
     Case('a column comes', ACCOUNTS, [NEXT, 'ALTER TABLE acct ADD COLUMN note TEXT', "UPDATE acct SET note = 'new' WHERE id = 2", NEXT],
          'same, not covered, patched, patched', captured='same, same, patched, patched'),
