@@ -6,7 +6,7 @@ import shutil
 import tempfile
 from pathlib import Path
 
-from bridge import UserError
+from gprom.program import ProgramError
 
 from . import compare
 from .faults import edit_of
@@ -39,7 +39,7 @@ def run(name, given, engines, faults):
     try:
         found = Check(given, engines, folder)
         passed, failed = found.find(faults) if given.faults else found.compare_all()
-    except UserError as error:
+    except ProgramError as error:
         print(f'{name}: {error}')
         return 1
     finally:

@@ -3,7 +3,7 @@ import collections
 import re
 from dataclasses import dataclass, field
 
-from bridge import gprom
+from gprom import answers as forms
 
 from . import Failure, dump, printed
 from .histories import questions_of, transactions_of
@@ -79,7 +79,7 @@ def expected_rows(made, questions, parts, counts):
     answers = made.ask([*bare, *explained, *(f'VERSIONS OF {table}' for table in made.tables)])
     rows = [None] * len(parts)
     for at, part in enumerate(parts):
-        (head, lines), (said, _) = answers[at], answers[len(parts) + at]
+        head, said = answers[at].head, answers[len(parts) + at].head
         if part.refusal is not None or REFUSAL.match(said):
             allowed = [head if PLAIN.match(questions[at]) and TEXT.match(head) else said, *([] if PLAIN.match(bare[at]) else [NOT_EXPORTED])]
             counts.refusals += part.refusal in allowed
@@ -87,14 +87,14 @@ def expected_rows(made, questions, parts, counts):
         elif COMPUTED.match(head):
             counts.left_out += 1
         else:
-            rows[at] = [gprom.cells(line, 0)[0] for line in lines]
-    return rows + [[version(line) for line in lines] for _, lines in answers[2 * len(parts):]]
+            rows[at] = [forms.row_values(line) for line in answers[at].lines]
+    return rows + [[version(line) for line in answer.lines] for answer in answers[2 * len(parts):]]
 
 
 def version(line):
     """A row version as a row: its identity, the version that wrote it, the one that ended it or NULL, and its cells."""
-    identity, since, till, row = line.split(' ', 3)
-    return (identity, int(since), None if till == '-' else int(till), *gprom.cells(row, 0)[0])
+    span = forms.span(line)
+    return (span.identity, span.start, span.end, *span.row)
 
 
 def difference(expected, found):

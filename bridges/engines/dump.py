@@ -2,7 +2,7 @@
 import re
 from pathlib import Path
 
-from bridge import gprom
+from gprom.program import Program
 
 TABLE = re.compile(r'table (\w+) \d+')
 
@@ -11,27 +11,27 @@ def run(program, folder, script):
     """The dump of a script, and the refusals of its lines. The folder keeps the files."""
     path = folder / 'script'
     path.write_text(script, encoding='utf-8', newline='\n')
-    refusals = gprom.run(program, path, folder / 'dump')
-    return Dump(program, folder / 'dump'), [text for _, text in refusals]
+    replies = Program([str(program)]).run(path, folder / 'dump')
+    return Dump(program, folder / 'dump'), [reply.head for reply in replies if reply.refused]
 
 
 class Dump:
     """The lines of a dump, and its tables in order of creation."""
 
     def __init__(self, program, path):
-        self.program, self.path = program, path
+        self.program, self.path = Program([str(program)]), path
         self.lines = path.read_text(encoding='utf-8').split('\n')[:-1]
         self.tables = [found[1] for line in self.lines if (found := TABLE.fullmatch(line))]
 
     def ask(self, questions):
         """The answers to these questions."""
-        return gprom.ask(self.program, self.path, questions)
+        return self.program.ask(self.path, questions)
 
     def sql(self, questions):
         """What `gprom sql` prints of these questions. The text stays beside the dump."""
         asked = self.path.with_suffix('.questions')
         asked.write_text(''.join(f'{question}\n' for question in questions), encoding='utf-8', newline='\n')
-        text = gprom.call(self.program, 'sql', self.path, asked)
+        text = self.program.text(['sql', str(self.path), str(asked)])
         self.path.with_suffix('.sql').write_text(text, encoding='utf-8', newline='\n')
         return text
 
@@ -41,4 +41,4 @@ class Dump:
         lines = [*self.lines[:first], *(f'table {name} 0' for name in self.tables), 'end']
         path = self.path.with_name('log')
         path.write_text(''.join(f'{line}\n' for line in lines), encoding='utf-8', newline='\n')
-        return Dump(self.program, path)
+        return Dump(self.program.words[0], path)

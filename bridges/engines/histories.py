@@ -1,8 +1,9 @@
 """What is compared: the examples of the repository, cases by hand, and random scripts with random questions."""
 import random
-import re
 from dataclasses import dataclass, field
 from pathlib import Path
+
+from gprom.answers import lines_of, listed
 
 from .scripts import Script
 
@@ -12,7 +13,6 @@ CASES = HERE / 'cases'
 LENGTH = 45                                             # lines of a random script, after its first transaction
 QUESTIONS = 20                                          # of a random script
 MOST_STATES = 40                                        # that are asked of an example
-TRANSACTION = re.compile(r'(\d+) s\d+ (?:SNAPSHOT|READ COMMITTED) at \d+ statements (\d+) (committed as \d+|lost|rolled back|active)')
 
 
 @dataclass
@@ -48,9 +48,8 @@ def random_history(seed):
 
 def transactions_of(dump):
     """The transactions of a dump, by their numbers."""
-    [(_, lines)] = dump.ask(['TRANSACTIONS'])
-    found = [TRANSACTION.fullmatch(line).groups() for line in lines]
-    return [Transaction(int(number), int(statements), fate.startswith('committed')) for number, statements, fate in found]
+    [listing] = dump.ask(['TRANSACTIONS'])
+    return [Transaction(it.number, it.statements, it.version is not None) for it in lines_of(listing, listed)]
 
 
 def states_of(transactions):

@@ -5,7 +5,7 @@ import re
 import shutil
 import subprocess
 
-from bridge import gprom
+from gprom.answers import plain
 
 from . import Failure
 
@@ -85,10 +85,10 @@ def rows_of(lines):
     """The rows of these lines, or a Failure if one is none."""
     rows = []
     for line in lines.split('\n')[:-1]:
-        row, end = gprom.cells(line, 0)
-        if row is None or end < len(line):
+        found = plain(line)
+        if found is None or found.value is not None:
             return Failure(line)
-        rows.append(row)
+        rows.append(found.row)
     return rows
 
 

@@ -21,7 +21,7 @@ class Slow(Program):
             return super().ask(dump, questions, job, most)
         self.begun.set()
         try:
-            return Program(["/bin/sh", "-c", "exec sleep 60", "sh"]).ask(dump, questions, job)
+            return Program(["/bin/sh", "-c", "exec sleep 120", "sh"]).ask(dump, questions, job)
         except Stopped:
             self.ended.set()
             raise

@@ -65,6 +65,35 @@ class Run(unittest.TestCase):
         ):
             self.assertIn(text, err)
 
+    def test_what_people_of_other_dialects_write(self) -> None:
+        for line, said in (
+            ("s1: UPDAT t SET a = 0", "did you mean UPDATE?"),
+            ("s1: SELECT * FORM t", "did you mean FROM?"),
+            ("BEGIN", "expected a session, s1 to s64"),
+            ("s65: BEGIN", "expected a session, s1 to s64"),
+            ("# a note", "a comment begins with --"),
+            ("/* a note */", "a comment begins with --"),
+            ("s1: BEGIN; COMMIT", "one command a line"),
+            ("s1: INSERT INTO t VALUES (1, 'O'Brien')", "A quote in a text is written twice"),
+            ("s1: DELETE FROM t WHERE b = \"Ann\"", "texts are in single quotes, names in none"),
+            ("s1: UPDATE t SET a = 12.50", "numbers are whole numbers: enter cents"),
+            ("s1: UPDATE t SET a = a / 2", "there is no division"),
+            ("s1: DELETE FROM t WHERE a == 1", "a comparison is one ="),
+            ("s1: INSERT INTO t (a, b) VALUES (1, 'x')", "no list of columns: VALUES gives a value for each"),
+            ("s1: CREATE TABLE u (a INTEGER)", "expected INT or TEXT"),
+            ("s1: SELECT SUM(a) FROM t", "a query has no aggregates; TOTAL SUM(..) OF a question has"),
+            ("s1: SELECT * FROM t WHERE b LIKE 'A%'", "this dialect has no LIKE"),
+            ("s1: SELECT * FROM t JOIN u ON a = c", "this dialect has no JOIN: it was read as a name"),
+            ("s1: SELECT * FROM t ORDER BY a", "this dialect has no ORDER"),
+            ("s1: SELECT DISTINCT a FROM t", "this dialect has no DISTINCT"),
+            ("s1: SELECT a AS x FROM t", "columns of a query have no names of their own"),
+            ("s1: SELECT x.* FROM t x", "there is no x.*"),
+            ("s1: SELECT b || b FROM t", "there is no ||"),
+            ("s1: UPDATE t SET a = (SELECT 1 FROM t)", "there are no subqueries"),
+            ("s1: DELETE FROM t WHERE TRUE", "for all rows leave WHERE out"),
+        ):
+            self.assertIn(said, self.run_it(self.script(f"{GOOD}s1: BEGIN\n{line}\n"))[2], line)
+
     def test_the_digests_are_checked_by_sha256sum(self) -> None:
         for name in ("a.script", "odd name.script", "back\\slash.script"):
             self.run_it(self.script(GOOD, name))

@@ -55,9 +55,9 @@ def chosen(statement, table, rows, images, most, skips):
     twins = {old for _, old, _ in written if there[old]}
     if twins and not table.key:                       # no condition tells the rows that were written from those that were not
         return None
-    names = table.key or [column.name for column in table.columns]
-    parts = [narrowed(statement, table, given, olds, names) for given, olds in groups.items()]
-    return Resolved(written, parts, taken)
+    parts = [part for given, olds in groups.items() for part in divided(statement, table, given, list(dict.fromkeys(olds)))]
+    keeps_keys = table.key and not any(name in table.key for name, _ in statement.sets or ())
+    return Resolved(written, parts, taken) if len(parts) < 2 or keeps_keys else None       # else a part might write a row of the one before
 
 
 def values_of(statement, table, old, new):
@@ -79,9 +79,19 @@ def values_of(statement, table, old, new):
     return tuple(given)
 
 
-def narrowed(statement, table, given, olds, names):
+def divided(statement, table, given, olds):
+    """The statement on these rows, as often as their conditions need."""
+    whole = narrowed(statement, table, given, olds)
+    if len(olds) == 1 or not whole.over_limit():
+        return [whole]
+    middle = len(olds) // 2
+    return divided(statement, table, given, olds[:middle]) + divided(statement, table, given, olds[middle:])
+
+
+def narrowed(statement, table, given, olds):
     """The statement on these rows alone, with the values that it took from elsewhere."""
-    condition = chain('or', [row_is(table, old, names) for old in dict.fromkeys(olds)])
+    names = table.key or [column.name for column in table.columns]
+    condition = chain('or', [row_is(table, old, names) for old in olds])
     sets = None
     if statement.kind == 'update':
         kept = [(column, term) for column, term in statement.sets if term is not HOLE]
@@ -106,37 +116,61 @@ def copied(statement, table, rows, images, most, skips):
 
 def upsert(statement, table, rows, images, most, skips):
     """INSERT of the tuples whose keys are not there, and UPDATE of the rows that have them."""
-    rows, offered = dict(rows), list(images)
-    written, taken, new_rows, updates = [], [], [], []
-    for at, given in enumerate(statement.rows):
-        identity = conflicting(statement, table, rows, given, offered)
-        if identity is None:
-            image = next((image for image in offered if image[1] is None and fits(given, image[2])), None)
-            if image is None and statement.sets is None:      # a key that is not known here, or a row that the window does not have
-                continue
-            if image is None:
-                return None
-            offered.remove(image)
-            taken.append(image[0])
-            written.append((None, None, image[2]))
-            new_rows.append(image[2])
-            rows[f'tuple {at}'] = image[2]
-            continue
-        row = rows[identity]
-        if statement.sets is None or not applies(statement, table, row, given):
-            continue
-        image = next((image for image in offered if image[1] == row and image[2] is not None), None)
-        sets = updated(statement, table, row, given, image[2]) if image else None
-        if sets is None:
-            return None
-        offered.remove(image)
-        taken.append(image[0])
-        written.append((identity, row, image[2]))
-        updates.append(Statement('update', table.name, sets=sets, where=row_is(table, row, table.key or statement.keys[0])))
-        rows[identity] = image[2]
-    if not skips and sorted(taken) != [image[0] for image in images[:len(taken)]]:
+    found = Upsert(statement, table, rows, images)
+    if not all(map(found.tuple, statement.rows)):
         return None
-    return Resolved(written, inserts(table.name, new_rows) + updates, taken)
+    taken = sorted(found.taken)
+    if not skips and taken != [image[0] for image in images[:len(taken)]]:
+        return None
+    return Resolved(found.written, inserts(table.name, found.inserted) + found.updates, taken)
+
+
+class Upsert:
+    """An INSERT with ON CONFLICT on its way through its tuples."""
+
+    def __init__(self, statement, table, rows, images):
+        self.statement, self.table, self.rows, self.offered = statement, table, dict(rows), list(images)
+        self.keys = [Key([table.index(name) for name in names], rows) for names in statement.keys]
+        self.written, self.taken, self.inserted, self.updates = [], [], [], []
+
+    def tuple(self, given):
+        """Goes on by a tuple. False if the statement cannot have written the images."""
+        identity = next((found for key in self.keys if (found := key.find(given, self.offered)) is not None), None)
+        if identity is None:
+            return self.insert(given)
+        if self.statement.sets is None or not applies(self.statement, self.table, self.rows[identity], given):
+            return True
+        return self.update(identity, given)
+
+    def insert(self, given):
+        """A tuple whose key is not there. One without an image has a key that is not known here, or the row of it is none of the window."""
+        image = next((image for image in self.offered if image[1] is None and fits(given, image[2])), None)
+        if image is None:
+            return self.statement.sets is None
+        self.inserted.append(image[2])
+        self.take(image, None, f'tuple {len(self.written)}')
+        return True
+
+    def update(self, identity, given):
+        """A tuple whose key a row has."""
+        row = self.rows[identity]
+        image = next((image for image in self.offered if image[1] == row and image[2] is not None), None)
+        sets = updated(self.statement, self.table, row, given, image[2]) if image else None
+        if sets is None:
+            return False
+        key = self.table.key or self.statement.keys[0]
+        self.updates.append(Statement('update', self.table.name, sets=sets, where=row_is(self.table, row, key)))
+        self.take(image, identity, identity)
+        return True
+
+    def take(self, image, identity, name):
+        """Notes an image as that of the statement; `name` is what its row is called from then on."""
+        self.offered.remove(image)
+        self.taken.append(image[0])
+        self.written.append((identity, image[1], image[2]))
+        self.rows[name] = image[2]
+        for key in self.keys:
+            key.add(name, image[2])
 
 
 def fits(given, new):
@@ -144,22 +178,26 @@ def fits(given, new):
     return all(cell is HOLE or cell == other for cell, other in zip(given, new))
 
 
-def conflicting(statement, table, rows, given, offered):
-    """The row that has the key of a tuple, by one of the keys. Where the server computed a part of the key, the row of the next image."""
-    for names in statement.keys:
-        places = [table.index(name) for name in names]
-        key = [given[at] for at in places]
-        if None in key:
-            continue
+class Key:
+    """The rows of a table by the cells of a key."""
+
+    def __init__(self, places, rows):
+        self.places, self.known = places, {}
+        for identity, row in rows.items():
+            self.add(identity, row)
+
+    def add(self, identity, row):
+        self.known[tuple(row[at] for at in self.places)] = identity
+
+    def find(self, given, offered):
+        """The row that has the key of a tuple, or None. Where the server computed a part of the key, the row of the next image."""
+        key = tuple(given[at] for at in self.places)
         if HOLE in key:
             old = next((old for _, old, new in offered if old is not None or fits(given, new)), None)
-            if old is None or not all(cell in (HOLE, old[at]) for at, cell in zip(places, key)):
-                continue
-            key = [old[at] for at in places]
-        for identity, row in rows.items():
-            if all(row[at] == cell for at, cell in zip(places, key)):
-                return identity
-    return None
+            if old is None or not all(cell in (HOLE, old[at]) for at, cell in zip(self.places, key)):
+                return None
+            key = tuple(old[at] for at in self.places)
+        return None if None in key else self.known.get(key)
 
 
 def applies(statement, table, row, given):

@@ -16,9 +16,6 @@
 #include "miscadmin.h"
 #include "nodes/bitmapset.h"
 #include "parser/parser.h"
-#if PG_VERSION_NUM < 140000
-#include "parser/gramparse.h"
-#endif
 #include "pgtime.h"
 #include "plpgsql.h"
 #include "utils/builtins.h"

@@ -112,8 +112,9 @@ CASES = [
           "UPDATE visit SET at = date '2026-01-01' WHERE since < 'tomorrow'"],
          'same, same, same, same'),
     Case('a list of sixty', ACCOUNTS + 'INSERT INTO acct SELECT n, n FROM generate_series(4, 90) n;',
-         [f"UPDATE acct SET bal = bal + 1 WHERE id IN ({', '.join(map(str, range(1, 61)))})", NEXT],
-         'patched, same'),
+         [f"UPDATE acct SET bal = bal + 1 WHERE id IN ({', '.join(map(str, range(1, 61)))})", NEXT,
+          'DELETE FROM acct WHERE bal IN (SELECT bal FROM acct WHERE id BETWEEN 5 AND 85)'],
+         'same, same, same', {'AS OF 4 SELECT id FROM acct': ['1', '4', '86', '87', '88', '89', '90']}),
     Case('several statements in a message', ACCOUNTS,
          [f'{NEXT}; UPDATE acct SET bal = bal - 1 WHERE id = 2', f'BEGIN; {NEXT}; COMMIT',
           'DELETE FROM acct WHERE id = 3; SELECT 1 / 0', NEXT],
@@ -287,7 +288,7 @@ CASES = [
          ["INSERT INTO sale VALUES (3, '2026-01-20', 30), (4, '2026-03-01', 40)", 'UPDATE sale SET n = n + 1 WHERE id > 1', 'UPDATE sale_1 SET n = 0',
           "INSERT INTO sale_2 (id, at, n) VALUES (5, '2026-05-05', 50)", 'SELECT * FROM sale_2', "UPDATE sale SET at = '2026-02-02' WHERE id = 1",
           'DELETE FROM sale WHERE n = 41', 'BEGIN', 'TRUNCATE sale', "INSERT INTO sale VALUES (6, '2026-01-01', 60)", 'COMMIT'],
-         'same, same, same, same, same, patched, same, same',
+         'same, same, same, same, same, same, same, same',
          {'AS OF 4 SELECT id, n FROM sale': ['1, 0', '2, 21', '3, 0', '4, 41'], 'AS OF 9 SELECT * FROM sale': ["6, '2026-01-01', 60"]}),
     Case('terms of constants', """
          CREATE TABLE task (id INTEGER PRIMARY KEY, n INTEGER, name TEXT, due TIMESTAMPTZ, day DATE);
@@ -312,6 +313,11 @@ CASES = [
          'same, same',
          {'SAW 2 AFTER 1 SELECT bal FROM acct WHERE id = 1': ['100'], 'SAW 3 AFTER 1 SELECT bal FROM acct WHERE id = 1': ['120'],
           'SERIAL': ['1', '2', '3']}),
+    Case('an UPDATE that sets the time is refused', """
+         CREATE TABLE acct (id INTEGER PRIMARY KEY, bal INTEGER, at TIMESTAMP); INSERT INTO acct VALUES (1, 100, NULL), (2, 50, NULL);""",
+         ['BEGIN ISOLATION LEVEL REPEATABLE READ', 'UPDATE acct SET at = CURRENT_TIMESTAMP WHERE id = 2', 'b: UPDATE acct SET bal = 90 WHERE id = 1',
+          'UPDATE acct SET bal = 80, at = now() WHERE id = 1', 'ROLLBACK'],
+         'rolled back, same', {'CONFLICTS 2': ['acct 1.1.1 at 1 : 3 wrote it as 2']}),
     *write_skews(),
     Case('a column comes', ACCOUNTS, [NEXT, 'ALTER TABLE acct ADD COLUMN note TEXT', "UPDATE acct SET note = 'new' WHERE id = 2", NEXT],
          'same, not covered, patched, patched', captured='same, same, patched, patched'),

@@ -44,11 +44,12 @@ class Given:
     """The SELECTs of a session, by their tags."""
 
     def __init__(self, number):
-        self.number, self.reads = number, {}
+        self.number, self.count, self.reads = number, 0, {}
 
     def execute(self, connection, text, *parameters, prepared=False):
         """Runs a statement. What a SELECT gives is kept, if the message has no other statement."""
-        tag = f'read {self.number}.{len(self.reads)}' if text.startswith('SELECT ') and ';' not in text else ''
+        tag = f'read {self.number}.{self.count}' if text.startswith('SELECT ') and ';' not in text else ''
+        self.count += bool(tag)                         # one that fails has a tag too, and may stand in the script
         sent = f'SELECT /*{tag}*/ {text[7:]}' if tag else text
         if prepared:
             connection.send_prepared(sent, *parameters)

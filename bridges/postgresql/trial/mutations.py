@@ -35,7 +35,8 @@ def check(window, found, gprom, count, seed, made):
     """The faults that matter and that `verify` does not find, among this many in the script of a window. All go to `made`."""
     failures = check_workload(window, found)
     if found.source is CAPTURE:
-        return failures + ([] if found.failures else without_a_line(window, random.Random(seed)))
+        chosen = random.Random(seed)
+        return failures + ([] if found.failures else without_a_line(window, chosen) + with_another_count(window, gprom, chosen))
     if found.failures or failures:
         return failures
     chosen = random.Random(seed)
@@ -96,6 +97,22 @@ def without_a_line(window, chosen):
     window.save('cut.jsonl', ''.join(lines[:at] + lines[at + 1:]))
     noticed = any(MISSING in line for line in convert(window, CAPTURE, 'cut.jsonl', 'cut'))
     return [] if noticed else [f'that line {at + 1} of the capture is missing is not noticed']
+
+
+def with_another_count(window, gprom, chosen):
+    """Says that a SELECT gave one row more on the server. Gives a line if `verify` does not find it."""
+    with open(window.path(f'{CAPTURE.out}.tsv'), encoding='utf-8') as file:
+        rows = [line.rstrip('\n').split('\t') for line in file]
+    covered = {row[4] for row in rows if row[0] == 'transaction' and not row[8]}
+    counted = [row for row in rows if row[0] == 'line' and row[9] and row[4] in covered]
+    if not counted:
+        return []
+    row = chosen.choice(counted)
+    row[9] = str(int(row[9]) + 1)
+    window.save('counted.tsv', ''.join('\t'.join(row) + '\n' for row in rows))
+    shutil.copy(window.path(f'{CAPTURE.out}.script'), window.path('counted.script'))
+    is_found = any(verdict.verdict == 'differs' for verdict in verify(window, gprom, 'counted'))
+    return [] if is_found else [f'another number of rows at line {row[3]} of the script is not found']
 
 
 def of_a_newer_server(window):

@@ -3,7 +3,7 @@ import hashlib
 import os
 from dataclasses import dataclass, field, replace
 
-EVERYTHING = 'DROP SCHEMA public CASCADE; CREATE SCHEMA public'
+EVERYTHING = 'DROP SCHEMA IF EXISTS zoo CASCADE; DROP SCHEMA public CASCADE; CREATE SCHEMA public'
 TABLES = """SELECT relname, oid::regclass FROM pg_class
             WHERE relkind IN ('r', 'p') AND NOT relispartition AND relnamespace = 'public'::regnamespace ORDER BY relname"""
 PARTITIONS = "SELECT oid::regclass FROM pg_class WHERE relkind = 'r' AND relispartition"
