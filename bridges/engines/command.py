@@ -17,14 +17,16 @@ MOST_FAILURES = 10                                      # after which no other r
 MOST_SCRIPTS = 40                                       # random ones in which a fault is looked for
 
 
-def arguments(description, questions):
-    """The options. `questions` is the number that the gate compares, besides those of the examples."""
+def arguments(description, questions, flags=()):
+    """The options. `questions` is the number that the gate compares, besides those of the examples; `flags` are more of them: (name, what it does)."""
     parser = argparse.ArgumentParser(description=description, formatter_class=argparse.RawDescriptionHelpFormatter)
     parser.add_argument('--questions', type=int, default=questions, metavar='N',
                         help='compare the rows of so many questions about random scripts (%(default)s)')
     parser.add_argument('--seed', type=int, default=1, help='of the first random script; the next one has the next number (%(default)s)')
     parser.add_argument('--faults', action='store_true', help='make faults in the text instead, each of which has to be found')
     parser.add_argument('--keep', type=Path, metavar='FOLDER', help='keep all files there; those of a failure are always kept')
+    for flag, does in flags:
+        parser.add_argument(flag, action='store_true', help=does)
     parser.add_argument('--gprom', metavar='PROGRAM', default=PROGRAM)
     return parser.parse_args()
 

@@ -5,10 +5,15 @@ The texts are answers about the histories of the tests, as the definitions of th
 
 from __future__ import annotations
 
+import re
 from collections.abc import Sequence
 from pathlib import Path
 
+from gpdesk.desk import Desk
+from gprom.client import Client, open_source
 from gprom.program import Answer, Job, Program
+
+from .support import program, written
 
 # Two anomalies in one history: a lost update of row 1 by transactions 2 and 3, and a write skew of 4 and 5 over rows 2 and 3.
 TWO = """s1: CREATE TABLE acct (id INT, bal INT)
@@ -52,7 +57,8 @@ TEXTS = {
     "AFFECTED BY x": "E03 syntax fault at column 13",
     "WHATIF UNDO x": "E03 syntax fault at column 13",
 }
-UNDO, DROP = "WHATIF UNDO 4, 5 OF ", "WHATIF DROP 4, DROP 5 OF "
+# Nothing acted on what transactions 4 and 5 did, so to undo them is to drop them.
+UNDO = re.compile(r"UNDO ([45](?:, [45])?) OF ")
 
 
 class Newer(Program):
@@ -60,11 +66,15 @@ class Newer(Program):
 
     def ask(self, dump: Path, questions: Sequence[str], job: Job | None = None, most: Sequence[int | None] = ()) -> list[Answer]:
         real = [it for it in questions if it not in TEXTS]
-        # Nothing acted on what 4 and 5 did.
-        asked = [it.replace(UNDO, DROP) for it in real]
+        asked = [UNDO.sub(lambda found: f"{', '.join(f'DROP {it}' for it in found[1].split(', '))} OF ", it) for it in real]
         found = {question: Answer(question, answer.head, answer.lines) for question, answer in zip(real, super().ask(dump, asked, job))}
         for question in questions:
             if question in TEXTS:
                 head, *lines = TEXTS[question].split("\n")
                 found[question] = Answer(question, head, tuple(line[2:] for line in lines))
         return [found[question] for question in questions]
+
+
+def newer() -> Desk:
+    it = Newer(program().words)
+    return Desk(Client(it, open_source(written("two.script", TWO), it)))

@@ -18,16 +18,10 @@ from gprom import answers as a
 from gprom.client import Client, open_source
 from gprom.program import Answer, Job
 
-from .newer import TEXTS, TWO, Newer
+from .newer import TEXTS, TWO, Newer, newer
 from .support import desk, program, written
 
 ALL = all(program().knows(it) for it in ("ANOMALIES", "AFFECTED", "UNDO"))
-
-
-def newer() -> Desk:
-    it = Newer(program().words)
-    source = open_source(written("two.script", TWO), it)
-    return Desk(Client(it, source))
 
 
 class Readers(unittest.TestCase):

@@ -3,6 +3,7 @@ import re
 from dataclasses import dataclass
 from datetime import date, datetime, timedelta, timezone
 from decimal import Decimal, InvalidOperation, localcontext
+from typing import Any
 
 from pglast import ast, enums
 
@@ -22,16 +23,16 @@ DIGITS = 60            # of the numbers that are computed here
 @dataclass
 class Constant:
     """A value of Python and its kind: int, numeric, string (a literal without a type), text, date, timestamp, timestamptz or interval."""
-    value: object
+    value: Any
     kind: str
 
-    def text(self):
+    def text(self) -> str:
         """The value as a literal of the server."""
         match self.kind:
             case 'date':
-                return self.value.isoformat()
+                return str(self.value.isoformat())
             case 'timestamp' | 'timestamptz':
-                return self.value.isoformat(' ')
+                return str(self.value.isoformat(' '))
             case 'numeric':
                 return format(self.value, 'f')
         return str(self.value)
@@ -40,10 +41,10 @@ class Constant:
 class Folding:
     """Computes terms without columns. `now` is the time when their transaction began, in seconds, or None."""
 
-    def __init__(self, parameters, now=None):
+    def __init__(self, parameters: dict[Any, Any], now: float | None = None) -> None:
         self.parameters, self.now = parameters, now
 
-    def of(self, node):
+    def of(self, node: Any) -> Constant:
         """The Constant of a term, or NotCovered."""
         try:
             with localcontext() as context:
@@ -52,7 +53,7 @@ class Folding:
         except (ArithmeticError, ValueError, InvalidOperation, OverflowError) as error:
             raise NotCovered('a term of constants') from error
 
-    def value(self, node):
+    def value(self, node: Any) -> Constant:
         match node:
             case ast.A_Const(isnull=True):
                 raise NotCovered('NULL in a term of constants')
@@ -74,14 +75,14 @@ class Folding:
                 return self.call(names[-1].sval, [self.value(arg) for arg in args or ()])
         raise NotCovered('a term of constants')
 
-    def moment(self, kind):
+    def moment(self, kind: str) -> Constant:
         if self.now is None:
             raise NotCovered('the time when the transaction began')
         found = datetime.fromtimestamp(0, timezone.utc).replace(tzinfo=None) + timedelta(microseconds=round(self.now * 1_000_000))
         return Constant(found.date() if kind == 'date' else found, kind)
 
     @staticmethod
-    def cast(found, name):
+    def cast(found: Constant, name: str) -> Constant:
         text = found.text() if found.kind != 'interval' else ''
         match name:
             case 'int2' | 'int4' | 'int8' if found.kind == 'int' or re.fullmatch(r'\s*[+-]?\d+\s*', text):
@@ -101,7 +102,7 @@ class Folding:
                 return Constant(interval(text), 'interval')
         raise NotCovered('a cast in a term of constants')
 
-    def call(self, name, values):
+    def call(self, name: str, values: list[Constant]) -> Constant:
         if name in NOW and not values:
             return self.moment('timestamptz')
         kinds = [value.kind for value in values]
@@ -121,7 +122,7 @@ class Folding:
         raise NotCovered(f'the function {name}')
 
 
-def interval(text):
+def interval(text: str) -> timedelta:
     """The timedelta of an interval that has neither months nor years, whose length depends on the day."""
     found, at = timedelta(), 0
     while match := INTERVAL.match(text, at):
@@ -135,7 +136,7 @@ def interval(text):
     return found
 
 
-def computed(sign, a, b):
+def computed(sign: str, a: Constant, b: Constant) -> Constant:
     """What an operator gives for two constants."""
     kinds, moments = {a.kind, b.kind}, ('timestamp', 'timestamptz')
     if sign == '||' and kinds <= {'string', 'text'}:
@@ -155,7 +156,7 @@ def computed(sign, a, b):
     raise NotCovered(f'the operator {sign}')
 
 
-def number(sign, a, b, kind):
+def number(sign: str, a: Any, b: Any, kind: str) -> Constant:
     """Arithmetic of numbers. A quotient that the server rounds is not computed."""
     match sign:
         case '+':

@@ -123,6 +123,8 @@ class Owners:
         steps = transaction.writes()
         if all(step.harmless for step in steps):
             return UNSEEN
+        if all(self.refutes(step, commit) for step in steps):
+            return None
         if not transaction.reason and not commit.reason:
             transaction.lowest = 0
             search = Search(self.tables, self.versions, self.times, transaction, commit.changes, at)
@@ -131,8 +133,9 @@ class Owners:
                 return 0 if all(step.statement or step.target.table for step in steps) else NARROWED
             if search.places(patched, True) is not None:
                 return NARROWED
-        may_be = transaction.may_write(commit.tables) and not all(self.refutes(step, commit) for step in steps)
-        return (NARROWED if any(self.reacts(step) for step in steps) else WEAK) if may_be else None
+        if not transaction.may_write(commit.tables):
+            return None
+        return NARROWED if any(self.reacts(step) for step in steps) else WEAK
 
     def reacts(self, step):
         """Whether a statement may have written other rows than its text says."""

@@ -5,16 +5,19 @@ than gprom takes, those stay which the window's statements use: the key, what is
 this order. `convert` writes both into OUT.tsv, and `verify` takes them from there.
 """
 from collections import Counter
+from collections.abc import Callable
 from dataclasses import dataclass, field
 from decimal import Decimal, InvalidOperation
+from typing import Any
 
 from pglast import ast
 
 from . import NotCovered
-from .schema import Type, cell
+from .schema import Table, Type, cell
 from .statements import parse
 from .translate import walk
 
+Row = tuple[Any, ...]
 COLUMNS, DECIMALS = 16, 9
 LEFT_OUT = 'left out'
 IN_CONDITION, SET, COMPUTED, NAMED = 1_000_000, 10_000, 100, 1         # weights of a use of a column
@@ -27,7 +30,7 @@ class Shape:
     dropped: set[tuple[str, str]] = field(default_factory=set)
 
     @classmethod
-    def read(cls, entries):
+    def read(cls, entries: list[dict[str, str]]) -> 'Shape':
         """What a table of lines says of columns."""
         found = cls()
         for entry in entries:
@@ -39,16 +42,16 @@ class Shape:
                     found.scales[name] = int(entry['rows'])
         return found
 
-    def entries(self):
+    def entries(self) -> list[tuple[Any, ...]]:
         """The same, for that table."""
         return [('column', '', table, '', '', '', '', name, LEFT_OUT) for table, name in sorted(self.dropped)] + \
                [('column', '', table, '', '', '', '', name, 'decimals', scale) for (table, name), scale in sorted(self.scales.items())]
 
-    def notes(self):
+    def notes(self) -> list[tuple[int, str]]:
         """What is said of it in the list of what is not in full."""
         return [(0, f'column {name} of {table} is left out: a table of gprom has at most {COLUMNS}') for table, name in sorted(self.dropped)]
 
-    def apply(self, tables, start, commits):
+    def apply(self, tables: dict[str, Table], start: dict[str, list[Row]], commits: list[Any]) -> None:
         """Brings the tables into this form, with their rows."""
         makers = {}
         for table in tables.values():
@@ -61,7 +64,7 @@ class Shape:
             commit.changes = [(name, *(row and makers[name](row) for row in rows)) if name in makers else (name, *rows)
                               for name, *rows in commit.changes]
 
-    def maker(self, table):
+    def maker(self, table: Table) -> Callable[[Row], Row]:
         """What makes a row of the table as it was one as it is then."""
         kept = [at for at, column in enumerate(table.columns) if (table.name, column.name) not in self.dropped]
         types = {}
@@ -74,7 +77,7 @@ class Shape:
         return lambda row: tuple(cell(row[at], types[at]) if at in types else row[at] for at in kept)
 
 
-def shape_of(tables, start, commits, texts):
+def shape_of(tables: dict[str, Table], start: dict[str, list[Row]], commits: list[Any], texts: list[str]) -> Shape:
     """The Shape of a window, for its rows, commits and the texts of its statements."""
     found = Shape(scales(tables, start, commits))
     wide = [table for table in tables.values() if len(table.columns) > COLUMNS]
@@ -87,11 +90,11 @@ def shape_of(tables, start, commits, texts):
 
 # Decimals
 
-def scales(tables, start, commits):
+def scales(tables: dict[str, Table], start: dict[str, list[Row]], commits: list[Any]) -> dict[tuple[str, str], int]:
     """The scale of each numeric without one whose values have one."""
     places = {table.name: [at for at, column in enumerate(table.columns) if column.type == Type('numeric')] for table in tables.values()}
     places = {name: found for name, found in places.items() if found}
-    texts = {(name, at): set() for name, found in places.items() for at in found}
+    texts: dict[tuple[str, int], set[Any]] = {(name, at): set() for name, found in places.items() for at in found}
     rows = [(name, row) for name in places for row in start.get(name, ())]
     rows += [(name, row) for commit in commits for name, *both in commit.changes if name in places for row in both if row]
     for name, row in rows:
@@ -100,7 +103,7 @@ def scales(tables, start, commits):
     return {(name, tables[name].columns[at].name): scale for (name, at), found in texts.items() if (scale := scale_of(found - {None})) is not None}
 
 
-def scale_of(texts):
+def scale_of(texts: set[str]) -> int | None:
     """How many decimals these numbers have, or None if they are no numbers of gprom with as many."""
     try:
         scale = max((len(text.partition('.')[2].rstrip('0')) for text in texts), default=None)
@@ -113,9 +116,9 @@ def scale_of(texts):
 
 # Columns
 
-def used(wide, texts):
+def used(wide: list[Table], texts: list[str]) -> dict[tuple[str, str], int]:
     """How much each column of these tables is used: (table, column) -> weight."""
-    weights = Counter()
+    weights: Counter[tuple[str, str]] = Counter()
     for text, count in Counter(texts).items():
         if any(table.name in text for table in wide):
             try:
@@ -128,9 +131,9 @@ def used(wide, texts):
     return weights
 
 
-def names(node):
+def names(node: Any) -> Counter[str]:
     """The names of columns in a statement with their weights."""
-    found = Counter()
+    found: Counter[str] = Counter()
     for part in walk(node):
         match part:
             case ast.ResTarget(name=name) if name:

@@ -68,6 +68,7 @@ class Transaction:
     unsaid: list = field(default_factory=list)          # (log line, reason) of reads that are not in the script
     exact: bool = False             # its snapshots are known
     doubt: str = ''                 # why it is not known whether it made its commit
+    who: tuple = ('', '', '')       # user, application and client
     failed: bool = False
 
     @property

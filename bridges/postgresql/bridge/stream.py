@@ -4,7 +4,7 @@ from collections.abc import Iterator
 from dataclasses import dataclass, field
 from typing import Any
 
-from . import UserError
+from . import UserError, files
 
 BLOCK = 1 << 22
 EPOCH = 946684800                 # seconds from 1970 to the year 2000, where the times of a server begin
@@ -54,28 +54,32 @@ def ended(line: bytes) -> float:
         return float('inf')
 
 
-def lines_of(file: str, low: float) -> Iterator[tuple[int, str]]:
+def lines_of(file: str | files.Names, low: float) -> Iterator[tuple[int, str]]:
     """(number, text) of the lines of a file, without most of those whose transactions ended before `low`, in seconds."""
     offset, number, rest = 0, 1, b''
-    with open(file, 'rb') as opened:
+    with files.opened(file) as opened:
         while low and (block := opened.read(BLOCK)):
             text = rest + block
             last = text.rfind(b'\n{"k":"', 0, text.rfind(b'\n')) + 1
             if last == 0 or ended(text[last:text.find(b'\n', last)]) >= low:
                 break
             offset, number, rest = offset + last, number + text.count(b'\n', 0, last), text[last:]
-        opened.seek(offset)
+    with files.opened(file, offset) as opened:
         for number, line in enumerate(opened, number):
             yield number, line.decode('utf-8', 'replace')
 
 
-def at_line(file: str, text: bytes) -> tuple[float, float]:
-    """Begin and end of what a line has, in seconds."""
+def at_line(file: str, lines: Iterator[bytes]) -> tuple[float, float]:
+    """Begin and end of what the first of these lines has, in seconds. The end of a subtransaction has no time, so the line behind it stands for it."""
+    text = b''
     try:
-        fields = json.loads(text)
-        return seconds(fields.get('t', fields['z'])), seconds(fields['z'])
-    except (ValueError, KeyError) as error:
-        raise UserError(f'{file}: {text[:40]!r} is no line with a time') from error
+        for text in lines:
+            fields = json.loads(text)
+            if fields['k'] != 'B':
+                return seconds(fields.get('t', fields['z'])), seconds(fields['z'])
+    except (ValueError, KeyError, TypeError):
+        pass
+    raise UserError(f'{file}: {text[:40]!r} is no line with a time')
 
 
 class Stream:

@@ -10,6 +10,8 @@
 #include "miscadmin.h"
 #include "storage/lock.h"
 #include "storage/proc.h"
+#include "utils/fmgrprotos.h"
+#include "utils/guc.h"
 #include "utils/memutils.h"
 #include "utils/snapmgr.h"
 #include "utils/timestamp.h"
@@ -21,7 +23,42 @@ static Entry *open_entries = NULL;	/* the last one that began is first */
 static uint64 counter = 0;
 static LocalTransactionId local_xid = InvalidLocalTransactionId;	/* of the transaction with captured statements */
 static char session[40];
-static char *names = NULL;		/* of the database and the user, as fields: no catalog can be read when a transaction ends */
+static char *names = NULL;		/* of the database, the user and the client, as fields: no catalog can be read when a transaction ends */
+
+/* A field with a text, unless it is empty. */
+static void
+append_name(StringInfo out, const char *field, const char *text)
+{
+	if (text == NULL || *text == '\0')
+		return;
+	appendStringInfo(out, ",\"%s\":", field);
+	append_text(out, text, strlen(text));
+}
+
+/* Where the client is, as %r of the log: [local], or an address and a port. */
+static void
+append_client(StringInfo out)
+{
+	LOCAL_FCINFO(call, 0);
+	Datum		address;
+	StringInfoData text;
+
+	if (MyBackendType != B_BACKEND)
+		return;
+	InitFunctionCallInfoData(*call, NULL, 0, InvalidOid, NULL, NULL);
+	address = inet_client_addr(call);
+	if (call->isnull)
+	{
+		append_name(out, "from", "[local]");
+		return;
+	}
+	initStringInfo(&text);
+	appendStringInfoString(&text, DatumGetCString(DirectFunctionCall1(inet_out, address)));
+	call->isnull = false;
+	appendStringInfo(&text, ":%d", DatumGetInt32(inet_client_port(call)));
+	append_name(out, "from", text.data);
+	pfree(text.data);
+}
 
 /* What a session needs once, when its first statement begins. */
 static void
@@ -42,6 +79,8 @@ start_session(void)
 	append_text(&text, database ? database : "", database ? strlen(database) : 0);
 	appendStringInfoString(&text, ",\"user\":");
 	append_text(&text, user ? user : "", user ? strlen(user) : 0);
+	append_name(&text, "app", application_name);
+	append_client(&text);
 	names = MemoryContextStrdup(capture_context, text.data);
 	pfree(text.data);
 	flush_at_exit();

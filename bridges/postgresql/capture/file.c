@@ -20,6 +20,8 @@ MemoryContext capture_context = NULL;
 static StringInfoData pending;	/* lines that are not in the file yet */
 static int	descriptor = -1;
 static char *opened = NULL;		/* the name that `descriptor` was opened by */
+static dev_t device;			/* of the file that was opened */
+static ino_t inode;
 static bool is_reported = false;	/* that this file cannot be written */
 static bool is_torn = false;	/* the last write ended within a line */
 
@@ -27,17 +29,18 @@ static bool is_torn = false;	/* the last write ended within a line */
 static bool
 is_current(void)
 {
-	struct stat named,
-				held;
+	struct stat status;
 
-	return descriptor >= 0 && strcmp(opened, capture_file) == 0 && stat(capture_file, &named) == 0 && fstat(descriptor, &held) == 0 &&
-		named.st_ino == held.st_ino && named.st_dev == held.st_dev;
+	return descriptor >= 0 && strcmp(opened, capture_file) == 0 && stat(capture_file, &status) == 0 && status.st_ino == inode &&
+		status.st_dev == device;
 }
 
 /* Opens the file anew where it is not current. A line so goes to the file that has the name when it is written. */
 static void
 open_file(void)
 {
+	struct stat status;
+
 	if (descriptor >= 0)
 		close(descriptor);
 	if (opened == NULL || strcmp(opened, capture_file) != 0)
@@ -49,6 +52,11 @@ open_file(void)
 	}
 	is_torn = false;
 	descriptor = BasicOpenFilePerm(capture_file, O_WRONLY | O_APPEND | O_CREAT | O_CLOEXEC, S_IRUSR | S_IWUSR);
+	if (descriptor >= 0 && fstat(descriptor, &status) == 0)
+	{
+		device = status.st_dev;
+		inode = status.st_ino;
+	}
 }
 
 /* Writes all bytes. False, with errno, if that cannot be: then a part of a line may be in the file. */

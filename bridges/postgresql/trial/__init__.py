@@ -5,7 +5,8 @@ server while sessions run), `judge` (converts a window by the log or the capture
 gave, beside the script), `report` (runs trials and counts). Then what the windows are of: `workload` (random transactions), `serial` and
 `starts` (what SERIAL has to answer for these), `refusals` (what CONFLICTS has to), `bench` (pgbench), `cases` (by hand), `guesses` (where
 a log alone misleads), `mutations` (scripts with a fault, which `verify` has to find), `reads` (four rows), `shop` (triggers, cascades and
-functions), `orm` (applications), and what only a capture shows: `seen` (snapshots), `nested` (statements in others), `meanings`
+functions), `orm` (applications), `long` and `replay` (windows of a long
+run), and what only a capture shows: `seen` (snapshots), `nested` (statements in others), `meanings`
 (settings of sessions), `capturing` (the extension itself). `page` plays the commands of a document; `isolation` has the isolation cases
 of examples/.
 """

@@ -49,6 +49,8 @@ class Check:
         self.expect(update['k'] == 'S' and update['o'] == 'UPDATE' and update['w'] == ['public.acct'] and update['rows'] == 1, f'an UPDATE: {update}')
         self.expect(update['s'].count(':') == 2 and 'e' in update and update['t'] <= update['z'], f'snapshots and times of an UPDATE: {update}')
         self.expect(end['k'] == 'C' and int(end['X']) > 0 and end['user'] == 'postgres' and end['n'] == update['n'] + 1 and end['T'] <= update['t'], f'a COMMIT: {end}')
+        named = self.lines('SELECT id FROM acct', application_name='the "till"')[-1]
+        self.expect('app' not in end and end['from'] == '[local]' and named.get('app') == 'the "till"', f'application and client: {end}, {named}')
         lines = self.lines('BEGIN', 'SAVEPOINT one', 'SELECT 1 / (id - id) FROM acct', 'ROLLBACK TO one', 'ROLLBACK')
         self.expect([line['k'] for line in lines] == ['S', 'B', 'B', 'A'], f'a savepoint: {lines}')
         self.expect(lines[0].get('error') == '22012', f'a division by zero: {lines[0]}')

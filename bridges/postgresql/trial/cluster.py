@@ -39,6 +39,7 @@ listen_addresses = ''
 unix_socket_directories = '{folder}'
 fsync = off
 """
+PLUGINS = "output_plugin_libraries = 'pgoutput, test_decoding, wal2json'\n"      # some servers load no other ones
 SLOT = 'bridge'
 OTHERS = "backend_type = 'client backend' AND pid NOT IN (pg_backend_pid(), {})"
 UNLOGGED = '-c log_min_duration_statement=-1'
@@ -84,6 +85,7 @@ class Cluster:
             os.chown(self.folder, self.user.pw_uid, self.user.pw_gid)
         self.read = self.captured = 0                   # how many bytes of the log and of the capture have been taken
         self.library, self.missing = None, ''           # of the extension, or why it could not be built
+        self.has_wal2json = os.path.exists(f'{os.path.dirname(self.programs)}/lib/wal2json.so')
 
     def command(self, program, *arguments, environment=None):
         """Runs one of the server's programs as the user that the server belongs to, and gives its output."""
@@ -101,6 +103,7 @@ class Cluster:
             with open(f'{self.data}/postgresql.conf', 'a', encoding='utf-8') as file:
                 file.write((PLAIN if self.is_plain else SETTINGS).format(folder=self.folder))
                 file.write(f"session_preload_libraries = '{self.library}'\n" if self.library else '')
+                file.write(PLUGINS if self.has_wal2json and 'output_plugin_libraries' in self.command('postgres', '--describe-config') else '')
             self.command('pg_ctl', '-D', self.data, '-w', '-t', '120', '-l', f'{self.folder}/start.log', 'start')
             self.control = self.connect()
             unseen = f'{UNLOGGED} -c gprom_capture.enabled=off' if self.library else UNLOGGED

@@ -110,9 +110,9 @@ def common(window):
     return ['--tables', window.path('tables.sql'), '--slot', window.path('slot.txt')]
 
 
-def call(command, statuses, text=None):
+def call(command, statuses, text=None, folder=None):
     """The lines of a command, which has to end with one of these statuses and without a word on the standard error."""
-    done = subprocess.run(command, input=text, capture_output=True, encoding='utf-8', check=False)
+    done = subprocess.run(command, input=text, cwd=folder, capture_output=True, encoding='utf-8', check=False)
     if done.returncode not in statuses or done.stderr:
         raise RuntimeError(f'{os.path.basename(command[0])}: status {done.returncode}: {(done.stderr or done.stdout).strip()}')
     return done.stdout.split('\n')[:-1]

@@ -51,14 +51,17 @@ class Report:
 
     def run(self, cluster, trial):
         """Records the window of a trial. It is judged later."""
-        folder = tempfile.mkdtemp(prefix=re.sub(r'\W+', '-', trial.name.lower()) + '-', dir=self.folder)
-        window = Window(folder, trial.default)
+        window = self.window(trial.name, trial.default)
         try:
             cluster.use(trial.settings)
             record(cluster, window, trial.setup, trial.work)
             self.later(self.judge, trial, window)
         except RuntimeError as fault:
             self.count(trial.name, [str(fault)])
+
+    def window(self, name, level='read committed'):
+        """A window without files, in a folder of its own."""
+        return Window(tempfile.mkdtemp(prefix=re.sub(r'\W+', '-', name.lower()) + '-', dir=self.folder), level)
 
     def later(self, work, *arguments):
         """Does something beside the recording of windows."""
@@ -86,6 +89,14 @@ class Report:
         with self.lock:
             self.counts[f'{trial.level}, by {source.name}'] += found.counts() + collections.Counter(runs=1, transactions=len(found.verdicts))
         return failures
+
+    def check(self, name, check, *arguments):
+        """Counts a check that gives its failures."""
+        try:
+            failures = check(*arguments)
+        except RuntimeError as fault:
+            failures = [str(fault)]
+        self.count(name, failures + [f'the files are in {self.folder}'] * bool(failures))
 
     def count(self, name, failures):
         """Counts a test, and prints each of its failures."""

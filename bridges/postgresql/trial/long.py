@@ -1,0 +1,311 @@
+"""Windows of long logs: the way from a row to its incident by `find` and `convert --around`, and random windows beside a replay of other code."""
+import csv
+import gzip
+import os
+import random
+import re
+import time
+from concurrent.futures import ThreadPoolExecutor
+from dataclasses import dataclass, field
+from functools import partial
+
+from bridge import lacks
+
+from . import bench, workload
+from .judge import CAPTURE, HERE, LOG, ask, call, verified
+from .replay import Begun, Replay
+from .window import record
+
+ACCOUNTS, CLIENTS = 20_000, 3                           # gprom holds 10,000 rows of a table
+KEY, GIVES = 4711, {'ann': 100, 'bob': 250}             # the account of the incident, and what each adds to what both have read
+INDEXED = {f'enable_{way}': 'on' for way in ('indexscan', 'indexonlyscan', 'bitmapscan')}
+ROW, GUIDE = f'pgbench_accounts:{KEY}', os.path.normpath(f'{HERE}/../../docs/GUIDE.md')
+USERS = '''DO $$ BEGIN CREATE ROLE ann LOGIN SUPERUSER; CREATE ROLE bob LOGIN SUPERUSER; EXCEPTION WHEN duplicate_object THEN NULL; END $$'''
+BENCH_KEYS = {'pgbench_accounts': 'aid', 'pgbench_tellers': 'tid', 'pgbench_branches': 'bid'}
+WORK_KEYS = {'acct': 'id', 'item': 'id'}
+JSON, JSON_SLOT = 'slot.wal2json', 'json'
+JSON_OPTIONS = "'format-version', '2', 'include-xids', 'on', 'include-timestamp', 'on'"
+CUT = re.compile('began before the window|does not see all that was committed before the window')
+BESIDE = 'values that the server computed'              # of a transaction that is open where the window ends
+FOUND = re.compile(ROW + r'@(\d+)\t[-\d]+T[:.\d]+\t(\S+)\tUPDATE abalance (-?\d+) -> (-?\d+)')
+
+
+@dataclass
+class Long:
+    """A long run: its window, the keys of its tables, whether it has the output of wal2json, and what ann and bob have read."""
+    window: object
+    keys: dict[str, str]
+    has_json: bool
+    read: dict[str, int] = field(default_factory=dict)
+
+    def given(self, number):
+        """The tables whose rows a window of this number gets: by turns all, and those alone that have no key, of which equal rows are told apart by nothing."""
+        return [name for name in self.window.started if number % 3 or name not in self.keys]
+
+
+@dataclass
+class Asked:
+    """The options of one window, by the log or the capture and one of the slots."""
+    name: str
+    source: object
+    slot: str
+    options: list[str]
+    rows: list[str]                                     # the tables that are given
+
+
+# Recording
+
+def with_json(cluster, window, work):
+    """Runs `work`, and keeps what a slot of wal2json has of it too, if the server has that plugin."""
+    if not cluster.has_wal2json:
+        work(cluster)
+        return
+    session = cluster.watcher                           # of which nothing is in the log
+    session.execute(f"SELECT pg_create_logical_replication_slot('{JSON_SLOT}', 'wal2json')")
+    try:
+        work(cluster)
+        changes = session.execute(f"SELECT data FROM pg_logical_slot_get_changes('{JSON_SLOT}', NULL, NULL, {JSON_OPTIONS})").rows
+        window.save(JSON, ''.join(data + '\n' for data, in changes))
+    finally:
+        session.execute(f"SELECT pg_drop_replication_slot('{JSON_SLOT}')")
+
+
+def record_bench(cluster, window, transactions):
+    """Records pgbench, with the incident when half is done."""
+    found = Long(window, BENCH_KEYS, cluster.has_wal2json)
+    cluster.control.execute(USERS)
+    cluster.use(INDEXED)
+    record(cluster, window, bench.setup(ACCOUNTS), lambda _: with_json(cluster, window, partial(bench_work, transactions=transactions, found=found)))
+    return found
+
+
+def bench_work(cluster, transactions, found):
+    run = partial(bench.run, cluster, transactions // CLIENTS, 'simple', 'read committed', seed=7, accounts=ACCOUNTS, clients=CLIENTS)
+    with ThreadPoolExecutor(1) as pool:
+        running = pool.submit(run)
+        while not running.done() and int(cluster.watcher.execute('SELECT count(*) FROM pgbench_history').rows[0][0]) < transactions // 2:
+            time.sleep(0.05)
+        found.read |= incident(cluster)
+        running.result()
+
+
+def incident(cluster):
+    """Both read the same balance, and each writes it with its own amount more. Gives what they have read."""
+    sessions, read = {name: cluster.connect(user=name) for name in GIVES}, {}
+    for name, session in sessions.items():
+        session.execute('BEGIN')
+        read[name] = int(session.execute(f'SELECT abalance FROM pgbench_accounts WHERE aid = {KEY}').rows[0][0])
+    for name, session in sessions.items():
+        time.sleep(0.02)
+        session.execute(f'UPDATE pgbench_accounts SET abalance = {read[name] + GIVES[name]} WHERE aid = {KEY}')
+        session.execute('COMMIT')
+        session.close()
+    return read
+
+
+def record_workload(cluster, window, transactions, seed):
+    """Records the random workload of eight sessions, which has a table without a key."""
+    settings = workload.Settings(seed, None, transactions)
+    record(cluster, window, workload.SETUP, lambda _: with_json(cluster, window, lambda cluster: workload.run(cluster, settings, {})))
+    return Long(window, WORK_KEYS, cluster.has_wal2json)
+
+
+# From a row to its incident
+
+def check_incident(found, gprom, source):
+    """What is wrong on the way from the row to an answer, as a user goes it."""
+    window, out = found.window, 'incident' if source is LOG else 'captured-incident'
+    tables = ['--tables', 'tables.sql', '--slot', 'slot.txt']
+    by = [[source.file, out], ['--log', source.file]] if source is LOG else [['--capture', source.file, out], ['--capture', source.file]]
+    finding = ['find', ROW, *tables, *by[1]]
+    listed = [FOUND.fullmatch(line) for line in call_in(window, finding, (0,))]
+    if not all(listed):
+        return [f'find lists {len(listed)} lines, some in another form']
+    wrote = {line[2]: line for line in listed if line[2] in GIVES}
+    wanted = {name: str(found.read[name] + GIVES[name]) for name in GIVES}
+    if {name: line[4] for name, line in wrote.items()} != wanted:
+        return [f'find gives {[line[0] for line in listed]}, where {wanted} were written']
+    converting, verifying = ['convert', *by[0], *tables, '--around', f"{ROW}@{wrote['bob'][1]}"], ['verify', out, *tables]
+    if source is LOG and (missing := missing_in_guide(finding, converting, verifying)):
+        return [f'{GUIDE} does not have the command {missing}']
+    call_in(window, converting, (0,))
+    verdicts, _ = verified(window, gprom, out)
+    numbers = {verdict.xid: verdict.transaction for verdict in verdicts if verdict.verdict == 'same'}
+    failures = [str(verdict) for verdict in verdicts if not is_expected(verdict)]
+    if missing := [name for name in GIVES if wrote[name][1] not in numbers]:
+        return [*failures, f'{missing} not same in the window of {len(verdicts)} transactions']
+    bob = numbers[wrote['bob'][1]]
+    (_, rows), (_, versions) = ask(gprom, window.path(f'{out}.dump'), [f'SAW {bob} AFTER 1 SELECT abalance FROM pgbench_accounts WHERE aid = {KEY}',
+                                                                       f'HISTORY OF pgbench_accounts WHERE aid = {KEY}'])
+    if rows != [str(found.read['bob'])]:
+        failures.append(f"bob saw {rows}, where the server gave him {found.read['bob']}")
+    if not all(any(f' {value},' in version for version in versions) for value in wanted.values()):
+        failures.append(f'HISTORY OF has {versions}, where {wanted} were written')
+    return failures
+
+
+def call_in(window, words, statuses):
+    """The lines of a command of this folder that names files of the window."""
+    return call([f'{HERE}/{words[0]}', *words[1:]], statuses, folder=window.folder)
+
+
+def missing_in_guide(*commands):
+    """The first of these commands that the guide does not have, but for the transaction."""
+    with open(GUIDE, encoding='utf-8') as opened:
+        lines = {re.sub(r'@\d+', '@', line.removeprefix('$ ').rstrip('\n')) for line in opened if line.startswith('$ ')}
+    return next((text for text in (re.sub(r'@\d+', '@', ' '.join(words)) for words in commands) if text not in lines), '')
+
+
+def source_of(window, source, out):
+    """The log and OUT, or the capture and OUT, as words of `convert`."""
+    return ['--capture', window.path(source.file), window.path(out)] if source is CAPTURE else [window.path(source.file), window.path(out)]
+
+
+def is_expected(verdict):
+    """Whether a transaction is the same, cut, or open where the window ends."""
+    return verdict.verdict == 'same' or verdict.verdict == 'not covered' and bool(
+        CUT.search(verdict.reason) or verdict.fate == 'active' and BESIDE in verdict.reason)
+
+
+def check_readers(found):
+    """What is wrong where the same window is read from several files, packed ones, or the other plugin: the script and its table are the same."""
+    window, failures = found.window, []
+    with open(window.path('log.csv'), 'rb') as opened:
+        lines = opened.readlines()
+    third, packed = len(lines) // 3, ['log.1.csv', 'log.2.csv.gz', 'log.3.csv']
+    for name, part in zip(packed, (lines[:third], lines[third:2 * third], lines[2 * third:])):
+        window.save(name, gzip.compress(b''.join(part), 1) if name.endswith('.gz') else b''.join(part))
+    with open(window.path('slot.txt'), 'rb') as opened:
+        window.save('slot.txt.gz', gzip.compress(opened.read(), 1))
+    middle = Commits(window.path('slot.txt')).all[len(lines) // 20][0]
+    made = {}
+    for logs, slot in (['log.csv'], 'slot.txt'), (packed, 'slot.txt.gz'), *[(['log.csv'], JSON)] * found.has_json:
+        call_in(window, ['convert', *logs, 'read', '--tables', 'tables.sql', '--slot', slot, '--from', f'xid:{middle}', '--rows', 'touched'], (0,))
+        texts = [open_text(window.path(f'read.{end}')) for end in ('script', 'tsv', 'people')]
+        if texts != made.setdefault('first', texts):
+            failures.append(f'convert makes another script of {logs} and {slot}')
+    return failures
+
+
+def check_whole(found, gprom, source):
+    """What is wrong where a long log is converted without bounds: its begin, up to the limits of gprom, each transaction of which is as expected."""
+    window, out = found.window, f'{source.out}-whole'
+    rows = [word for name in window.started for word in ('--rows', f'{name}={name}.csv')]
+    files = [source.file, out] if source is LOG else ['--capture', source.file, out]
+    last = call_in(window, ['convert', *files, '--tables', 'tables.sql', '--slot', 'slot.txt', *rows], (0,))[-1]
+    verdicts, _ = verified(window, gprom, out)
+    failures = [str(verdict) for verdict in verdicts if not is_expected(verdict)]
+    return failures + ([] if re.search('^stopped at the limit of .* give --to ', last) and len(verdicts) > 100 else
+                       [f'{len(verdicts)} transactions, and the last line is {last}'])
+
+
+def open_text(name):
+    """The text of a file."""
+    with open(name, encoding='utf-8') as opened:
+        return opened.read()
+
+
+# Random windows
+
+class Commits:
+    """The transactions of the slot, as (xid, time), by their places."""
+
+    def __init__(self, file):
+        with open(file, encoding='utf-8', newline='\n') as lines:
+            found = [re.match(r'COMMIT (\d+) \(at (\S+ \S+)\+00\)', line) for line in lines if line.startswith('COMMIT ')]
+        self.all = [(match[1], match[2].replace(' ', 'T')) for match in found if match]
+        self.places = {xid: at for at, (xid, _) in enumerate(self.all)}
+
+
+def windows_of(found, source, count, seed):
+    """Random windows by one source: begin and end by a time, an xid or a line, or open at the end; by turns from both slots."""
+    window, chance = found.window, random.Random(seed)
+    commits, slots = Commits(window.path('slot.txt')), ['slot.txt', *[JSON] * found.has_json]
+    with open(window.path(source.file), 'rb') as lines:
+        length = sum(1 for _ in lines)
+    for number in range(count):
+        kind, span = chance.choice(('time', 'xid', 'line', 'open')), chance.randrange(20, 300)
+        low = chance.randrange(max(1, len(commits.all) - 20))
+        ends = commits.all[low], commits.all[min(len(commits.all) - 1, low + span)]
+        if kind == 'line':
+            line = chance.randrange(1, max(2, length - 100))
+            options = ['--from', f'line:{line}', '--to', f'line:{min(length, line + 4 * span)}']
+        else:
+            texts = [f'xid:{xid}' if kind == 'xid' else moment for xid, moment in ends]
+            options = ['--from', texts[0]] + ([] if kind == 'open' else ['--to', texts[1]])
+        yield Asked(f'{source.out}-window-{number}', source, slots[number % len(slots)], options, found.given(number))
+
+
+def check_windows(found, gprom, source, count, seed, allowed=None):
+    """What is wrong with random windows: a verdict that is not expected, or rows that are not those of the replay where a window begins."""
+    begun, failures = [], []
+    for asked in windows_of(found, source, count, seed):
+        try:
+            window, wrong = check_window(found, gprom, asked, allowed or is_expected)
+        except RuntimeError as fault:
+            failures.append(f"{asked.name} ({' '.join(asked.options)}): {fault}")
+            continue
+        begun += [window] if window else []
+        failures += [f"{asked.name} ({' '.join(asked.options)}): {verdict}" for verdict in wrong]
+    return failures + (rows_differ(found, begun) if found.has_json else [])
+
+
+def check_window(found, gprom, asked, allowed):
+    """(where the window begins, the verdicts that are not expected)"""
+    window = found.window
+    rows = [word for name in asked.rows for word in ('--rows', f"{name}={window.path(name)}.csv")] or ['--rows', 'touched']
+    call([f'{HERE}/convert', *source_of(window, asked.source, asked.name), '--tables', window.path('tables.sql'), '--slot', window.path(asked.slot),
+          *asked.options, *rows], (0,))
+    verdicts, _ = verified(window, gprom, asked.name)
+    return begin_of(found, gprom, asked), [verdict for verdict in verdicts if not allowed(verdict)]
+
+
+def begin_of(found, gprom, asked):
+    """Where a window begins among the commits, and the rows that the script has there; None without a commit."""
+    path, places = found.window.path, Commits(found.window.path('slot.txt')).places
+    with open(path(f'{asked.name}.tsv'), newline='', encoding='utf-8') as lines:
+        entries = list(csv.DictReader(lines, delimiter='\t', quoting=csv.QUOTE_NONE))
+    mine = [places[entry['xid']] for entry in entries
+            if entry['kind'] == 'transaction' and entry['transaction'] and entry['fate'] == 'committed' and entry['xid'] in places]
+    if not mine:
+        return None
+    script = open_text(path(f'{asked.name}.script')).split('\n')
+    first = min((int(entry['script_line']) for entry in entries if entry['kind'] == 'line'), default=len(script) + 1)
+    version = script[:first - 1].count('s1: BEGIN')     # of the starting rows
+    names = [match[1] for line in script if (match := re.match(r's1: CREATE TABLE (\w+) ', line))]
+    answers = ask(gprom, path(f'{asked.name}.dump'), [f'AS OF {version} SELECT * FROM {name}' for name in names])
+    left = open_text(path(f'{asked.name}.left'))
+    partial_tables = {name for name in found.window.ended if name not in asked.rows or f'table {name} has more than' in left}
+    return Begun(asked.name, min(mine), max(mine), partial_tables, {name: lines for name, (_, lines) in zip(names, answers)})
+
+
+def rows_differ(found, begun):
+    """What is wrong with the rows where windows begin, and with the replay at the server's end."""
+    window = found.window
+    replay = Replay({name: ended.columns for name, ended in window.ended.items()}, found.keys)
+    for name in window.started:
+        replay.start(name, window.path(f'{name}.csv'))
+    failures = list(replay.wrong(window.path(JSON), begun))
+    return failures + [f'the replay has other rows of {name} than the server at the end' for name, ended in window.ended.items()
+                       if replay.rows(name) != sorted(ended.in_gprom({}))]
+
+
+def is_expected_of_workload(verdict):
+    """The same of the random workload, which has statements that gprom cannot express."""
+    return is_expected(verdict) or verdict.verdict == 'not covered' and bool(workload.REASONS.search(verdict.reason) or lacks.REASON in verdict.reason)
+
+
+# The trials
+
+def run(cluster, report, transactions, windows, seed):
+    """Records a run of pgbench and one of the random workload. What is made of them is judged later."""
+    long = record_bench(cluster, report.window('a long log'), transactions)
+    work = record_workload(cluster, report.window('a log of random transactions'), max(8, transactions // 100), seed)
+    report.later(report.check, 'files and plugins of a long log', check_readers, long)
+    for source in (LOG, CAPTURE) if cluster.library else (LOG,):
+        report.later(report.check, f'an incident in a long log, by {source.name}', check_incident, long, report.gprom, source)
+        report.later(report.check, f'a long log without bounds, by {source.name}', check_whole, long, report.gprom, source)
+        report.later(report.check, f'windows of a long log, by {source.name}', check_windows, long, report.gprom, source, windows, seed)
+        report.later(report.check, f'windows of random transactions, by {source.name}', check_windows, work, report.gprom, source, windows, seed,
+                     is_expected_of_workload)
+    return '' if long.has_json else 'windows: the rows where they begin are not compared, since wal2json is not installed'
