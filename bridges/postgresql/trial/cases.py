@@ -306,7 +306,7 @@ CASES = [
     Case('tables come and go', ACCOUNTS,
          ['CREATE TABLE other AS SELECT * FROM acct', 'BEGIN', 'INSERT INTO other VALUES (1, 1)', NEXT, 'COMMIT',
           'CREATE TEMP TABLE mine (id INTEGER)', 'INSERT INTO mine VALUES (1)', 'DROP TABLE other', NEXT],
-         'patched, patched, not covered, not covered, not covered, same', captured='patched, patched, same, same, same'),
+         'patched, patched, not covered, same', captured='patched, patched, same, same, same'),
     Case('rows are locked, and then read', ACCOUNTS,    # a SELECT that waited gives the newest rows
          ['BEGIN', 'SELECT bal FROM acct WHERE id = 1 FOR UPDATE', 'b: BEGIN', 'b: SELECT bal FROM acct WHERE id = 1 FOR UPDATE',
           'UPDATE acct SET bal = 120 WHERE id = 1', 'COMMIT', 'b: UPDATE acct SET bal = 150 WHERE id = 1', 'b: COMMIT'],

@@ -11,7 +11,7 @@ from functools import partial
 
 from bridge import lacks
 
-from . import bench, workload
+from . import bench, events, workload
 from .judge import CAPTURE, HERE, LOG, ask, call, verified
 from .replay import Begun, Replay
 from .window import record
@@ -23,7 +23,7 @@ ROW, GUIDE = f'pgbench_accounts:{KEY}', os.path.normpath(f'{HERE}/../../docs/GUI
 USERS = '''DO $$ BEGIN CREATE ROLE ann LOGIN SUPERUSER; CREATE ROLE bob LOGIN SUPERUSER; EXCEPTION WHEN duplicate_object THEN NULL; END $$'''
 BENCH_KEYS = {'pgbench_accounts': 'aid', 'pgbench_tellers': 'tid', 'pgbench_branches': 'bid'}
 WORK_KEYS = {'acct': 'id', 'item': 'id'}
-JSON, JSON_SLOT = 'slot.wal2json', 'json'
+JSON, JSON_SLOT, EVENTS = 'slot.wal2json', 'json', 'slot.debezium'
 JSON_OPTIONS = "'format-version', '2', 'include-xids', 'on', 'include-timestamp', 'on'"
 CUT = re.compile('began before the window|does not see all that was committed before the window')
 BESIDE = 'values that the server computed'              # of a transaction that is open where the window ends
@@ -168,7 +168,7 @@ def is_expected(verdict):
 
 
 def check_readers(found):
-    """What is wrong where the same window is read from several files, packed ones, or the other plugin: the script and its table are the same."""
+    """What is wrong where the same window is read from several files, packed ones, or another slot: the script and its tables are the same."""
     window, failures = found.window, []
     with open(window.path('log.csv'), 'rb') as opened:
         lines = opened.readlines()
@@ -178,8 +178,10 @@ def check_readers(found):
     with open(window.path('slot.txt'), 'rb') as opened:
         window.save('slot.txt.gz', gzip.compress(opened.read(), 1))
     middle = Commits(window.path('slot.txt')).all[len(lines) // 20][0]
+    if found.has_json:
+        window.save(EVENTS, ''.join(event + '\n' for event in events.events(window.path(JSON))))
     made = {}
-    for logs, slot in (['log.csv'], 'slot.txt'), (packed, 'slot.txt.gz'), *[(['log.csv'], JSON)] * found.has_json:
+    for logs, slot in (['log.csv'], 'slot.txt'), (packed, 'slot.txt.gz'), *[(['log.csv'], other) for other in (JSON, EVENTS) if found.has_json]:
         call_in(window, ['convert', *logs, 'read', '--tables', 'tables.sql', '--slot', slot, '--from', f'xid:{middle}', '--rows', 'touched'], (0,))
         texts = [open_text(window.path(f'read.{end}')) for end in ('script', 'tsv', 'people')]
         if texts != made.setdefault('first', texts):

@@ -13,6 +13,8 @@ import re
 import shutil
 from dataclasses import dataclass
 
+from bridge.capture import EARLY
+
 from .judge import CAPTURE, MISSING, convert, verify
 from .workload import check as check_workload
 
@@ -20,6 +22,7 @@ NUMBER = re.compile(r"'(?:[^']|'')*'|(?<![\w.])(\d+)(?!\w)")     # a text, or a 
 WRITES = ('INSERT', 'UPDATE', 'DELETE')
 ATTEMPTS = 100                                          # for each mutation
 DROPPED = '-- dropped'
+LATER = 4                                               # commits of the capture behind the end of a slot
 
 
 @dataclass
@@ -36,7 +39,8 @@ def check(window, found, gprom, count, seed, made):
     failures = check_workload(window, found)
     if found.source is CAPTURE:
         chosen = random.Random(seed)
-        return failures + ([] if found.failures else without_a_line(window, chosen) + with_another_count(window, gprom, chosen))
+        more = () if found.failures else (without_a_line(window, chosen), with_another_count(window, gprom, chosen), with_a_shorter_slot(window, gprom))
+        return failures + [failure for part in more for failure in part]
     if found.failures or failures:
         return failures
     chosen = random.Random(seed)
@@ -113,6 +117,20 @@ def with_another_count(window, gprom, chosen):
     shutil.copy(window.path(f'{CAPTURE.out}.script'), window.path('counted.script'))
     is_found = any(verdict.verdict == 'differs' for verdict in verify(window, gprom, 'counted'))
     return [] if is_found else [f'another number of rows at line {row[3]} of the script is not found']
+
+
+def with_a_shorter_slot(window, gprom):
+    """Lets the slot end some commits before the capture does, as on a server that goes on. Gives a line if that disturbs what is in the slot."""
+    with open(window.path('slot.txt'), encoding='utf-8', newline='\n') as file:
+        text = file.read()
+    end = [match.end() for match in re.finditer(r'^COMMIT .*\n', text, re.M)][-1 - LATER]
+    window.save('all.txt', text)
+    window.save('slot.txt', text[:end])
+    left = convert(window, CAPTURE, out='shorter')
+    verdicts = verify(window, gprom, 'shorter')
+    window.save('slot.txt', text)
+    wrong = [str(verdict) for verdict in verdicts if verdict.verdict == 'differs' or EARLY in verdict.reason]
+    return wrong + ([] if any('behind its end' in line for line in left) else ['nothing says that the capture goes on behind the slot'])
 
 
 def of_a_newer_server(window):
