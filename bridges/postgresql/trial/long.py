@@ -110,6 +110,22 @@ def record_workload(cluster, window, transactions, seed):
     return Long(window, WORK_KEYS, cluster.has_wal2json)
 
 
+def record_chain(cluster, window):
+    """Records a transaction that waits before its COMMIT AND CHAIN, and the one that it is chained to."""
+    record(cluster, window, workload.SETUP, chain)
+    return Long(window, WORK_KEYS, False)
+
+
+def chain(cluster):
+    session = cluster.connect()
+    for text in ('BEGIN', 'UPDATE acct SET bal = bal + 1 WHERE id = 1'):
+        session.execute(text)
+    time.sleep(0.05)
+    for text in ('COMMIT AND CHAIN', 'UPDATE acct SET bal = bal + 1 WHERE id = 2', 'COMMIT'):
+        session.execute(text)
+    session.close()
+
+
 # From a row to its incident
 
 def check_incident(found, gprom, source):
@@ -187,6 +203,17 @@ def check_readers(found):
         if texts != made.setdefault('first', texts):
             failures.append(f'convert makes another script of {logs} and {slot}')
     return failures
+
+
+def check_chain(found, gprom):
+    """What is wrong with the window that begins with a chained transaction: the one before it has a record, though its end has the number of the next one."""
+    window = found.window
+    last = Commits(window.path('slot.txt')).all[-1][0]
+    call_in(window, ['convert', 'log.csv', 'out', '--tables', 'tables.sql', '--slot', 'slot.txt', '--from', f'xid:{last}'], (0,))
+    verdicts, _ = verified(window, gprom)
+    kinds = {(verdict.verdict, verdict.log_line > 0) for verdict in verdicts if verdict.xid == last}
+    return [str(verdict) for verdict in verdicts if not is_expected(verdict) or not verdict.log_line] or ([] if kinds == {('same', True)} else [
+        f'the transaction is not the same: {verdicts}'])
 
 
 def check_whole(found, gprom, source):
@@ -304,6 +331,7 @@ def run(cluster, report, transactions, windows, seed):
     long = record_bench(cluster, report.window('a long log'), transactions)
     work = record_workload(cluster, report.window('a log of random transactions'), max(8, transactions // 100), seed)
     report.later(report.check, 'files and plugins of a long log', check_readers, long)
+    report.later(report.check, 'a window from a chained transaction on', check_chain, record_chain(cluster, report.window('a chain')), report.gprom)
     for source in (LOG, CAPTURE) if cluster.library else (LOG,):
         report.later(report.check, f'an incident in a long log, by {source.name}', check_incident, long, report.gprom, source)
         report.later(report.check, f'a long log without bounds, by {source.name}', check_whole, long, report.gprom, source)
