@@ -43,17 +43,17 @@ def write_skews():
     """Write skews whose reads are in statements that are patched, or in conditions that gprom has no words for."""
     off = "UPDATE doctor SET state = 'off call' WHERE id = {}"
     pay = 'UPDATE acct SET bal = 0 WHERE id = {}'
-    for name, setup, look, write, tables, kinds in (
-            ('ON CONFLICT', ACCOUNTS, 'INSERT INTO acct VALUES ({}, 0) ON CONFLICT (id) DO NOTHING', pay, ('acct', 'acct'), 'same, same'),
-            ('EXISTS', ACCOUNTS, 'SELECT id FROM acct WHERE EXISTS (SELECT 1 FROM acct o WHERE o.id = {} AND o.bal > 5)', pay, ('acct', 'acct'), 'same, same'),
-            ('an enum', DOCTORS, "SELECT count(*) FROM doctor WHERE state = 'on call' AND id = {}", off, ('doctor', 'doctor'), 'same, same'),
-            ('a LEFT JOIN', DOCTORS, 'SELECT d.state, s.hours FROM doctor d LEFT JOIN shift s ON s.doctor = d.id WHERE d.id = {}', off,
-             ('doctor', 'doctor'), 'same, same')):
+    for name, setup, look, write, table, reads in (           # by which of its statements each one reads what the other writes
+            ('ON CONFLICT', ACCOUNTS, 'INSERT INTO acct VALUES ({}, 0) ON CONFLICT (id) DO NOTHING', pay, 'acct', 1),
+            # the first SELECT, of the ids outside, uses no column that is written
+            ('EXISTS', ACCOUNTS, 'SELECT id FROM acct WHERE EXISTS (SELECT 1 FROM acct o WHERE o.id = {} AND o.bal > 5)', pay, 'acct', 2),
+            ('an enum', DOCTORS, "SELECT count(*) FROM doctor WHERE state = 'on call' AND id = {}", off, 'doctor', 1),
+            ('a LEFT JOIN', DOCTORS, 'SELECT d.state, s.hours FROM doctor d LEFT JOIN shift s ON s.doctor = d.id WHERE d.id = {}', off, 'doctor', 1)):
         begin = 'BEGIN ISOLATION LEVEL REPEATABLE READ'
         yield Case(f'a write skew through {name}', setup,
                    [begin, look.format(1), f'b: {begin}', f'b: {look.format(2)}', write.format(2), f'b: {write.format(1)}', 'COMMIT', 'b: COMMIT'],
-                   kinds, {'SERIAL': [f'2 before 3 : 2.1 read {tables[0]} 1.1.1 at 1, 3 wrote it as 3',
-                                      f'3 before 2 : 3.1 read {tables[1]} 1.1.2 at 1, 2 wrote it as 2']})
+                   'same, same', {'SERIAL': [f'2 before 3 : 2.{reads} read {table} 1.1.1 at 1, 3 wrote it as 3',
+                                             f'3 before 2 : 3.{reads} read {table} 1.1.2 at 1, 2 wrote it as 2']})
 
 
 CASES = [
