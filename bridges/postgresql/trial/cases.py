@@ -6,6 +6,7 @@ last version those of the server. `expected` says which, so that nothing gets wo
 `verify` lists. What no verdict tells, such as what was read, `answers` says.
 """
 import re
+import time
 from dataclasses import dataclass, field
 
 from .judge import CAPTURE, ask
@@ -23,6 +24,7 @@ DOCTORS = """CREATE TYPE duty AS ENUM ('on call', 'off call');
 NEXT = 'UPDATE acct SET bal = bal + 1 WHERE id = 1'     # shows that later transactions find the rows that they found on the server
 UNSAID = re.compile(r'; (\d+) reads cannot be said, so SERIAL and ANOMALIES of this history are incomplete')
 PATIENCE = 1.0         # seconds without a reply, after which a statement is taken to wait
+PAUSE = 0.003          # between statements, so that the log's milliseconds tell who committed first where two sessions run the same statement
 
 
 @dataclass
@@ -350,6 +352,7 @@ def run(cluster, case):
         if name not in sessions:
             sessions[name] = cluster.connect()
         take_reply(sessions[name])
+        time.sleep(PAUSE)
         try:
             sessions[name].send(text)
         except ConnectionError:                         # the server has ended the session
