@@ -50,7 +50,8 @@ use Rattle.gp_sql.specs.declared.cell_type.CellType.{CellType}
 use Rattle.gp_sql.specs.CellTypes.{AreOf, column_types}
 use Rattle.gp_sql.specs.TypedQueries.{is_well_typed}
 use Rattle.gp_sql.specs.Types.{is_typed}
-use Rattle.gp_sql.specs.VersionTables.{AllSpansFit, SpansFit, SpanFits, held_rows, version_tables}
+use Rattle.gp_sql.specs.HeldRows.{held_rows}
+use Rattle.gp_sql.specs.VersionTables.{AllSpansFit, SpansFit, SpanFits, version_tables}
 use Rattle.gp_versions.specs.declared.span.Span.{Span}
 use Rattle.gp_versions.specs.Spans.{rows_at, row_of, spans_at, holds_at}
 use Rattle.gp_dump.specs.Dumps.{Dump}

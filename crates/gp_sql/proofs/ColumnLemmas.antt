@@ -1,9 +1,10 @@
 -- What the names of columns mean in the rows of one source, or of two.
 use Rattle.gp_sql.proofs.Prelude.{◌≡◌, ℕ, zero, suc, ◌+◌, ◌<◌, Bool, cond, List, [], ◌∷◌, ◌++◌, drop, length, get_or, Some, refl, sym, ap, ◌∙◌, arith, Option, ◌&&◌, ◌==◌, eq_itself, not_eq, Cell, column}
+use Rattle.std.specs.Option.{unwrap_or}
 use Rattle.gp_base.proofs.SmallLemmas.{eq_from_same, eq_not}
 use Rattle.gp_base.specs.declared.cell.Cell.TheVariants as cell
 use Rattle.gp_sql.specs.declared.cell_type.CellType.{CellType}
-use Rattle.gp_sql.specs.Meaning.{Relation, Scope, cell_named, cell_of, cell_or, term_values}
+use Rattle.gp_sql.specs.Meaning.{Relation, Scope, cell_named, cell_of, term_values}
 use Rattle.gp_sql.specs.NamedQueries.{columns_of, stored_terms}
 use Rattle.gp_sql.specs.Sql as s
 use Rattle.gp_sql.specs.Sql.{Alias, Column, Source, Terms}
@@ -33,41 +34,41 @@ are-long (c ∷ row) (type ∷ types) h = ap (λ (n : ℕ). suc n) (are-long row
 
 -- ---- one cell
 
-found-head : (m k : ℕ) (x : Cell) (other : Option Cell) → m ≡ k → cell_or cell.Null (cond (m == k) (Some x) other) ≡ x
-found-head m k x other e = ap (λ b. cell_or cell.Null (cond b (Some x) other)) (eq_from_same k m (sym e))
+found-head : (m k : ℕ) (x : Cell) (other : Option Cell) → m ≡ k → unwrap_or (cond (m == k) (Some x) other) cell.Null ≡ x
+found-head m k x other e = ap (λ b. unwrap_or (cond b (Some x) other) cell.Null) (eq_from_same k m (sym e))
 
-found-behind : (m k : ℕ) (x : Cell) (other : Option Cell) → k < m → cell_or cell.Null (cond (m == k) (Some x) other) ≡ cell_or cell.Null other
-found-behind m k x other less = ap (λ b. cell_or cell.Null (cond b (Some x) other)) (eq_not m k (λ e. omega (arith, less, e)))
+found-behind : (m k : ℕ) (x : Cell) (other : Option Cell) → k < m → unwrap_or (cond (m == k) (Some x) other) cell.Null ≡ unwrap_or other cell.Null
+found-behind m k x other less = ap (λ b. unwrap_or (cond b (Some x) other) cell.Null) (eq_not m k (λ e. omega (arith, less, e)))
 
-numbered-found : (row : List Cell) (m k n : ℕ) → m ≡ k + n → cell_or cell.Null (cell_named (s.numbered m) (numbered_names k (length row)) row) ≡ get_or row n cell.Null
+numbered-found : (row : List Cell) (m k n : ℕ) → m ≡ k + n → unwrap_or (cell_named (s.numbered m) (numbered_names k (length row)) row) cell.Null ≡ get_or row n cell.Null
 numbered-found [] m k n e = refl
 numbered-found (x ∷ row) m k zero e = found-head m k x (cell_named (s.numbered m) (numbered_names (suc k) (length row)) row) (omega (arith, e))
 numbered-found (x ∷ row) m k (suc n) e =
     found-behind m k x (cell_named (s.numbered m) (numbered_names (suc k) (length row)) row) (omega (arith, e))
     ∙ numbered-found row m (suc k) n (omega (arith, e))
 
-none-found : (row : List Cell) (k : ℕ) → 0 < k → cell_or cell.Null (cell_named (s.numbered 0) (numbered_names k (length row)) row) ≡ cell.Null
+none-found : (row : List Cell) (k : ℕ) → 0 < k → unwrap_or (cell_named (s.numbered 0) (numbered_names k (length row)) row) cell.Null ≡ cell.Null
 none-found [] k above = refl
 none-found (x ∷ row) k above =
-    ap (λ b. cell_or cell.Null (cond b (Some x) (cell_named (s.numbered 0) (numbered_names (suc k) (length row)) row))) (not_eq 0 k above)
+    ap (λ b. unwrap_or (cond b (Some x) (cell_named (s.numbered 0) (numbered_names (suc k) (length row)) row)) cell.Null) (not_eq 0 k above)
     ∙ none-found row (suc k) (omega arith)
 
-pub named-cell : (n : ℕ) (row : List Cell) → cell_or cell.Null (cell_named (s.numbered n) (numbered_names 1 (length row)) row) ≡ column n row
+pub named-cell : (n : ℕ) (row : List Cell) → unwrap_or (cell_named (s.numbered n) (numbered_names 1 (length row)) row) cell.Null ≡ column n row
 named-cell zero row = none-found row 1 (omega arith)
 named-cell (suc n) row = numbered-found row (suc n) 1 n (omega arith)
 
 stored-found : (row : List Cell) (table m k n : ℕ) → m ≡ k + n
-    → cell_or cell.Null (cell_named (s.stored table m) (stored_names table k (length row)) row) ≡ get_or row n cell.Null
+    → unwrap_or (cell_named (s.stored table m) (stored_names table k (length row)) row) cell.Null ≡ get_or row n cell.Null
 stored-found [] table m k n e = refl
 stored-found (x ∷ row) table m k zero e =
-    ap (λ (b : Bool). cell_or cell.Null (cond (b && (m == k)) (Some x) (cell_named (s.stored table m) (stored_names table (suc k) (length row)) row))) (eq_itself table)
+    ap (λ (b : Bool). unwrap_or (cond (b && (m == k)) (Some x) (cell_named (s.stored table m) (stored_names table (suc k) (length row)) row)) cell.Null) (eq_itself table)
     ∙ found-head m k x (cell_named (s.stored table m) (stored_names table (suc k) (length row)) row) (omega (arith, e))
 stored-found (x ∷ row) table m k (suc n) e =
-    ap (λ (b : Bool). cell_or cell.Null (cond (b && (m == k)) (Some x) (cell_named (s.stored table m) (stored_names table (suc k) (length row)) row))) (eq_itself table)
+    ap (λ (b : Bool). unwrap_or (cond (b && (m == k)) (Some x) (cell_named (s.stored table m) (stored_names table (suc k) (length row)) row)) cell.Null) (eq_itself table)
     ∙ found-behind m k x (cell_named (s.stored table m) (stored_names table (suc k) (length row)) row) (omega (arith, e))
     ∙ stored-found row table m (suc k) n (omega (arith, e))
 
-pub stored-cell : (table n : ℕ) (row : List Cell) → cell_or cell.Null (cell_named (s.stored table n) (stored_names table 0 (length row)) row) ≡ get_or row n cell.Null
+pub stored-cell : (table n : ℕ) (row : List Cell) → unwrap_or (cell_named (s.stored table n) (stored_names table 0 (length row)) row) cell.Null ≡ get_or row n cell.Null
 stored-cell table n row = stored-found row table n 0 n (omega arith)
 
 -- ---- all cells from one on

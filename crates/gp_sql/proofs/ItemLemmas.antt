@@ -1,5 +1,7 @@
 -- The items of a SELECT, one behind the others.
 use Rattle.gp_sql.proofs.Prelude.{◌≡◌, ℕ, zero, suc, ◌+◌, ◌<◌, ◌≤◌, true, false, List, [], ◌∷◌, ◌++◌, map, drop, length, Some, pos, refl, sym, ap, ◌∙◌, append_assoc, append-nil, arith, Option, slice_get, decimal, concat, Cell, Table}
+use Rattle.gp_base.specs.Texts.{cell_text}
+use Rattle.std.specs.Option.{option_map_or}
 use Rattle.std.proofs.Common.{codes}
 use Rattle.gp_base.specs.declared.cell.Cell.TheVariants as cell
 use Rattle.gp_base.specs.declared.table.Column.{Column}
@@ -11,7 +13,7 @@ use Rattle.gp_sql.specs.declared.cell_type.CellType.{CellType}
 use Rattle.gp_sql.specs.declared.cell_type.CellType.TheVariants.{Id}
 use Rattle.gp_sql.specs.ItemTexts.{columns_text, name_text, named_behind, separator, stored_text}
 use Rattle.gp_sql.specs.NamedQueries.{columns_of, stored_terms}
-use Rattle.gp_sql.specs.Spelling.{column_name, name_of, named_text, others_joined, others_named, prefix_text, quoted, term_text}
+use Rattle.gp_sql.specs.Spelling.{column_name, named_text, others_joined, others_named, prefix_text, term_text}
 use Rattle.gp_sql.specs.Sql as s
 use Rattle.gp_sql.specs.Sql.{Alias, Term, Terms}
 use Rattle.gp_sql.specs.Translation.{cell_term, cells_terms, expr_term, exprs_terms, first_due, other_parts}
@@ -91,7 +93,7 @@ stored-one tables place n columns =
     (behind-more tables (suc n) (s.number (pos 0)) s.no_terms))
 
 named-column : (tables : List Table) (place : ℕ) (table : Table) (n : ℕ) (column : Column) → slice_get tables place ≡ Some table → slice_get table.cols n ≡ Some column → column_name (slice_get tables place) n ≡ column.name
-named-column tables place table n column there is = ap (λ (own : Option Table). column_name own n) there ∙ ap name_of is
+named-column tables place table n column there is = ap (λ (own : Option Table). column_name own n) there ∙ ap (λ (own : Option Column). option_map_or (λ (one : Column). one.name) own []) is
 
 get-first : {X : Type 0} (xs : List X) (n : ℕ) (x : X) (post : List X) → drop n xs ≡ x ∷ post → (slice_get xs n ≡ Some x) × (drop (suc n) xs ≡ post)
 get-first [] zero x post e = absurd cc
@@ -176,7 +178,7 @@ parts-more : (tables : List Table) (types : List CellType) (n : ℕ) (x : Code) 
 parts-more tables types n x xs =
     let text : List ℕ = term_text tables (expr_term types Id (expr_view x)) in
     let rest : List ℕ = others_joined tables (other_parts types (parts_of xs)) in
-    ap (λ (z : List ℕ). codes " || " ++ (quoted (codes ",") ++ z)) (append-nil (codes " || " ++ (text ++ (rest ++ []))) ∙ ap (λ (z : List ℕ). codes " || " ++ (text ++ z)) (append-nil rest))
+    ap (λ (z : List ℕ). codes " || " ++ (cell_text (cell.Text (codes ",")) ++ z)) (append-nil (codes " || " ++ (text ++ (rest ++ []))) ∙ ap (λ (z : List ℕ). codes " || " ++ (text ++ z)) (append-nil rest))
     ∙ sym (concat-onto (codes " || ',' || " ∷ text ∷ [] ∷ []) rest)
 
 pub parts-kept : (tables : List Table) (types : List CellType) (parts : List Code) (n : ℕ) (x : Code) (out later all : List ℕ) → slice_get parts n ≡ Some x

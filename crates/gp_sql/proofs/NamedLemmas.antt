@@ -10,7 +10,8 @@ use Rattle.gp_sql.specs.Meaning.{Relation, query_relation, relations_after, rows
 use Rattle.gp_sql.specs.NamedQueries.{Operand, Translated, TranslatedSteps, is_projection, known_types, operand, program_query, published_query, translated, translated_steps, types_of, written_query}
 use Rattle.gp_sql.specs.CellTypes.{AreOf}
 use Rattle.gp_sql.specs.Types.{selected_types, projected_types, product_types, StepTypes, query_types, no_types, with_types, step_is_typed, steps_types, steps_are_typed, is_typed}
-use Rattle.gp_sql.specs.VersionTables.{version_tables, AllSpansFit, held_rows}
+use Rattle.gp_sql.specs.HeldRows.{held_rows}
+use Rattle.gp_sql.specs.VersionTables.{version_tables, AllSpansFit}
 use Rattle.gp_sql.proofs.ColumnLemmas.{relation_with}
 use Rattle.gp_sql.proofs.PublishLemmas.{is-published, published-value, written-value}
 use Rattle.gp_sql.proofs.QueryLemmas.{all-value, both-parts, given-value, product-value, project-value, scan-value, select-value, stored_relation, union-value, width}

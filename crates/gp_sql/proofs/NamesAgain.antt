@@ -1,5 +1,6 @@
 -- Names, and numbers with a sign, are read again in front of a rest.
 use Rattle.gp_sql.proofs.Prelude.{◌≡◌, ◌≢◌, ℕ, ℤ, pos, zero, suc, ◌-◌, ◌^◌, ◌<◌, ◌≤◌, Bool, true, false, eqb, List, [], ◌∷◌, ◌++◌, length, map, get_or, take, drop, Some, None, option_and_then, refl, sym, ap, ◌∙◌, append-nil, length-append, arith, codes, ◌==◌, slice_get, decimal, signed_decimal, AllByRecursion, list_all, bytes_eq, and_parts, and_from, leb-true, ltb-true, false≢true, list_all-append, Table, table_names, fits_number, is_digit, is_name, behind, name_at, most_u64, number_at, EndsName, concat-onto, Ends}
+use Rattle.std.specs.Option.{option_map_or}
 use Rattle.std.proofs.Common.{negsuc, ◌||◌, inl, inr, Option, ne_eqb}
 use Rattle.std.proofs.lemmas.Slice.Eq.{bytes_eq-Decides}
 use Rattle.std.proofs.lemmas.Bool.{cases_Bool, eqb-true, or_left}
@@ -14,7 +15,7 @@ use Rattle.gp_plantext.proofs.CellAgain.{cell-again}
 use Rattle.gp_plantext.proofs.NumberAgain.{decimal-first, number-again}
 use Rattle.gp_plantext.proofs.Rests.{no_digits, no_word}
 use Rattle.gp_sql.specs.Spelled.{AreDifferent, HaveOwnNames, source_is_spelled, column_is_spelled}
-use Rattle.gp_sql.specs.Spelling.{name_of, column_name, column_text, source_text}
+use Rattle.gp_sql.specs.Spelling.{column_name, column_text, source_text}
 use Rattle.gp_sql.specs.Sql as s
 use Rattle.gp_sql.specs.Sql.{Column, Source}
 use Rattle.gp_sql.proofs.Reading.{place_in, column_names, last_byte, source_of, source_at, as_number, signed_at, begins_number, column_at}
@@ -70,7 +71,7 @@ named-within [] n is = absurd (false≢true is)
 named-within (name ∷ names) zero is = omega arith
 named-within (name ∷ names) (suc n) is = omega (arith, named-within names n is)
 
-name-listed : (columns : List table.Column) (n : ℕ) → name_of (slice_get columns n) ≡ get_or (map (λ (column : table.Column). column.name) columns) n []
+name-listed : (columns : List table.Column) (n : ℕ) → option_map_or (λ (column : table.Column). column.name) (slice_get columns n) [] ≡ get_or (map (λ (column : table.Column). column.name) columns) n []
 name-listed [] n = refl
 name-listed (column ∷ columns) zero = refl
 name-listed (column ∷ columns) (suc n) = name-listed columns n

@@ -5,7 +5,8 @@ use Rattle.gp_base.specs.Texts.{quoted_byte}
 use Rattle.gp_expr.specs.declared.expr.Cmp.TheVariants as cmp
 use Rattle.gp_plantext.proofs.CellAgain.{text-again}
 use Rattle.gp_sql.specs.Spelled.{is_unit, is_chain, term_is_spelled}
-use Rattle.gp_sql.specs.Spelling.{cmp_text, prefix_text, column_text, term_text}
+use Rattle.gp_plantext.specs.Spelling.{cmp_text}
+use Rattle.gp_sql.specs.Spelling.{prefix_text, column_text, term_text}
 use Rattle.gp_sql.specs.Sql as s
 use Rattle.gp_sql.specs.Sql.{SqlType, Column, Source, Alias, FromItem, Term, Terms, Test, Items, Where, Block, Query}
 use Rattle.gp_sql.proofs.Reading.{Part, term, opposite, test, star, as_term, cast_at, column_at, column_of, term_at, compared, unit_on, unit_at, more_on, tail_on, rest_on, test_at, close, operated, joined_on, first_on, bracket_at, opposite_at, not_at, term_before, case_at, part_by}

@@ -1,5 +1,7 @@
 -- PUBLISH: the query of the written identities, and the query that reads it.
 use Rattle.gp_sql.proofs.Prelude.{◌≡◌, ℕ, suc, Bool, true, false, cond, List, [], ◌∷◌, ◌++◌, map, length, Some, None, pos, refl, sym, ap, ◌∙◌, append-nil, Option, is_some, ◌&&◌, ◌||◌, not, filter, AllByRecursion, list_any, and_parts, map-append, each_append, eq_itself, filter-map, map-map, map_agree_at, Cell, column, compared, holds, known, negation, is_marked, is_same_id, published_onto}
+use Rattle.gp_plantext.specs.Spellable.{has_item}
+use Rattle.std.specs.Option.{unwrap_or}
 use Rattle.std.proofs.lemmas.List.Folds.{list_any-append}
 use Rattle.std.proofs.lemmas.Map.Views.{any-filter_same}
 use Rattle.gp_base.proofs.SmallLemmas.{any-map}
@@ -11,7 +13,7 @@ use Rattle.gp_sql.specs.declared.cell_type.CellType.TheVariants.{Null, Int, Text
 use Rattle.gp_sql.specs.Sql as s
 use Rattle.gp_sql.specs.Sql.{Column, Source}
 use Rattle.gp_sql.specs.SqlCells.{sql_cell, sql_row, sql_rows}
-use Rattle.gp_sql.specs.Meaning.{Relation, Scope, cell_named, cell_or, has_row, query_relation, test_truth}
+use Rattle.gp_sql.specs.Meaning.{Relation, Scope, cell_named, query_relation, test_truth}
 use Rattle.gp_sql.specs.NamedQueries as n
 use Rattle.gp_sql.specs.NamedQueries.{is_missing, published_query, written_query}
 use Rattle.gp_sql.specs.CellTypes.{AreOf, IsOf}
@@ -65,7 +67,7 @@ module _ (relations : Source → Relation) (at : ℕ) where
 
   -- the identities of column c of a relation are compared with that of row x
   abbrev is_same : List Column → Cell → List Cell → Bool
-  is_same columns id other = holds (compared cmp.Eq (cell_or cell.Null (cell_named (s.numbered at) columns other)) id)
+  is_same columns id other = holds (compared cmp.Eq (unwrap_or (cell_named (s.numbered at) columns other) cell.Null) id)
 
   missing-any : (types : List CellType) (row : List Cell) → AreOf row types → (source : Source)
       → test_truth relations (row_x (length types) (sql_row row)) (is_missing at source)
@@ -74,7 +76,7 @@ module _ (relations : Source → Relation) (at : ℕ) where
       let scope : Scope = row_x (length types) (sql_row row) in
       let test : s.Test = s.compare cmp.Eq (s.column s.y (s.numbered at)) (s.column s.x (s.numbered at)) in
       ap (λ b. negation (known b))
-      (ap has_row (block-alone relations scope (s.single (s.number (pos 1))) s.y source (s.passing test))
+      (ap has_item (block-alone relations scope (s.single (s.number (pos 1))) s.y source (s.passing test))
       ∙ has-any (λ row. cell.Int (pos 1) ∷ []) (λ other. holds (test_truth relations (alone s.y (relations source).columns other ++ scope) test)) (relations source).rows
       ∙ ap (λ id. list_any (is_same (relations source).columns id) (relations source).rows) (column-value types row are at))
 
@@ -116,7 +118,7 @@ module _ (relations : Source → Relation) (at : ℕ) where
       ∙ any_agree (λ other. found (id_row other)) (λ other. is_same_id (column at other) (column at row)) rows
       (each_weaker (λ other. IsOf (column at other) Id) (λ other. found (id_row other) ≡ is_same_id (column at other) (column at row))
       (λ other is.
-      ap (λ b. holds (compared cmp.Eq (cell_or cell.Null (cond b (Some (sql_cell (column at other))) None)) (sql_cell (column at row)))) (eq_itself at)
+      ap (λ b. holds (compared cmp.Eq (unwrap_or (cond b (Some (sql_cell (column at other))) None) cell.Null) (sql_cell (column at row)))) (eq_itself at)
       ∙ same-id (column at other) (column at row) is id)
       rows all))
 
@@ -124,7 +126,7 @@ module _ (relations : Source → Relation) (at : ℕ) where
 
   -- column n of a row of a source with so many columns
   abbrev cell_at : ℕ → ℕ → List Cell → Cell
-  cell_at count n row = cell_or cell.Null (cell_named (s.numbered n) (numbered_names 1 count) row)
+  cell_at count n row = unwrap_or (cell_named (s.numbered n) (numbered_names 1 count) row) cell.Null
 
   marked-rows : (types : List CellType) (rows : List (List Cell)) → is_mark (type_at (suc at) types) ≡ true → AllByRecursion (λ row. AreOf row types) rows
       → filter (λ row. holds (compared cmp.Eq (cell_at (length types) (suc at) row) (cell.Int (pos 1)))) (sql_rows rows) ≡ sql_rows (own_marks at rows)

@@ -1,5 +1,6 @@
 -- A query of SQL gives the rows of the plain query that it is made of, and its columns are c1, c2, ..
 use Rattle.gp_sql.proofs.Prelude.{◌≡◌, ℕ, zero, suc, Bool, true, false, cond, List, [], ◌∷◌, ◌++◌, map, drop, length, Some, None, refl, sym, ap, ◌∙◌, append-nil, Option, is_some, filter, AllByRecursion, flat_map, option_map_or, map-append, map-map, map_agree_at, filter-map, map-flat_map, length-map, Cell, Table, unannotated, Expr, Cond, holds, passes, values, encoded_row, Span, holds_at, row_of, spans_at, rows_at}
+use Rattle.std.specs.Option.{unwrap_or}
 use Rattle.gp_base.proofs.SmallLemmas.{filter_agree, flat_map-map}
 use Rattle.gp_base.specs.declared.cell.Cell.TheVariants as cell
 use Rattle.gp_base.specs.declared.table.Column as t
@@ -9,7 +10,7 @@ use Rattle.gp_sql.specs.declared.cell_type.CellType.TheVariants.{Id, Mark}
 use Rattle.gp_sql.specs.Sql as s
 use Rattle.gp_sql.specs.Sql.{Alias, Column, Source, Terms}
 use Rattle.gp_sql.specs.SqlCells.{sql_cell, sql_row, sql_rows}
-use Rattle.gp_sql.specs.Meaning.{Relation, Scope, cell_named, cell_or, term_values, test_truth, names_from, query_relation}
+use Rattle.gp_sql.specs.Meaning.{Relation, Scope, cell_named, term_values, test_truth, names_from, query_relation}
 use Rattle.gp_sql.specs.NamedQueries.{from, all_of, columns_of, crossed, given_query, holding, known_types, scanned, stored_terms}
 use Rattle.gp_sql.specs.Translation.{cells_terms, cond_test, exprs_terms, first_due}
 use Rattle.gp_sql.specs.CellTypes.{AreOf, IsOf, column_types, kind_type}
@@ -105,7 +106,7 @@ stored-names table k n (column ∷ columns) = ap (λ (names : List Column). s.nu
 
 -- column n of a row with so many columns
 abbrev found : ℕ → ℕ → List Cell → Cell
-found count n row = cell_or cell.Null (cell_named (s.numbered n) (numbered_names 1 count) row)
+found count n row = unwrap_or (cell_named (s.numbered n) (numbered_names 1 count) row) cell.Null
 
 module _ (relations : Source → Relation) where
   -- ---- FILTER

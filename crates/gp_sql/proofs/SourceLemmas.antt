@@ -1,7 +1,8 @@
 -- What FROM and WHERE choose where there are one or two sources, and what EXISTS finds.
 use Rattle.gp_sql.proofs.Prelude.{◌≡◌, Bool, true, false, cond, List, [], ◌∷◌, ◌++◌, map, refl, ap, ◌∙◌, append-nil, ◌||◌, filter, AllByRecursion, flat_map, list_any, map-map, filter-map, map-flat_map, Cell}
+use Rattle.gp_plantext.specs.Spellable.{has_item}
 use Rattle.gp_base.proofs.SmallLemmas.{flat_map_agree}
-use Rattle.gp_sql.specs.Meaning.{Relation, Scope, choices, items_row, passes_where, block_rows, has_row}
+use Rattle.gp_sql.specs.Meaning.{Relation, Scope, choices, items_row, passes_where, block_rows}
 use Rattle.gp_sql.specs.NamedQueries.{from, all_of}
 use Rattle.gp_sql.specs.Sql as s
 use Rattle.gp_sql.specs.Sql.{Alias, Source, Items, Where}
@@ -21,9 +22,9 @@ pub flat_agree : {X Y : Type 0} (f g : X → List Y) (xs : List X) → AllByRecu
 flat_agree f g [] h = refl
 flat_agree f g (x ∷ xs) h = λ i. h.0 i ++ flat_agree f g xs h.1 i
 
-pub has-any : {X : Type 0} (f : X → List Cell) (p : X → Bool) (xs : List X) → has_row (map f (filter p xs)) ≡ list_any p xs
+pub has-any : {X : Type 0} (f : X → List Cell) (p : X → Bool) (xs : List X) → has_item (map f (filter p xs)) ≡ list_any p xs
 has-any f p [] = refl
-has-any f p (x ∷ xs) = elim (p x) as (λ b. has_row (map f (cond b (x ∷ filter p xs) (filter p xs))) ≡ (b || list_any p xs)) [ true ↦ refl | false ↦ has-any f p xs ]
+has-any f p (x ∷ xs) = elim (p x) as (λ b. has_item (map f (cond b (x ∷ filter p xs) (filter p xs))) ≡ (b || list_any p xs)) [ true ↦ refl | false ↦ has-any f p xs ]
 
 singles : {X Y : Type 0} (f : X → Y) (xs : List X) → flat_map (λ x. f x ∷ []) xs ≡ map f xs
 singles f [] = refl

@@ -1,5 +1,6 @@
 -- The query of a program that has types and a text is spelled, where its text has fewer than 2 ^ 63 bytes.
 use Rattle.gp_sql.proofs.Prelude.{◌≡◌, ℕ, pos, zero, suc, ◌+◌, ◌^◌, ◌<◌, ◌≤◌, Bool, true, false, cond, List, [], ◌∷◌, ◌++◌, length, take, drop, get_or, Some, None, refl, sym, subst, ◌∙◌, length-append, arith, codes, is_some, ◌&&◌, ◌||◌, ◌==◌, slice_get, decimal, flat_map, list_all, and_parts, and_from, false≢true, list_all-append, eq_itself, Cell, Table, table_names, fits_number, is_name, newline, is_u32, Expr, Cond, Plain, PlainStep, PlainProgram, width_of, cell_is_spellable, expr_is_spellable, cond_is_spellable}
+use Rattle.std.specs.Option.{option_map_or}
 use Rattle.std.proofs.Common.{Option}
 use Rattle.gp_base.specs.declared.table.Column as table
 use Rattle.gp_algebra.specs.Plain as p
@@ -9,7 +10,7 @@ use Rattle.gp_sql.specs.declared.cell_type.CellType.{CellType}
 use Rattle.gp_sql.specs.declared.cell_type.CellType.TheVariants.{Id, Mark}
 use Rattle.gp_sql.specs.NamedQueries.{Operand, Translated, TranslatedSteps, from, all_of, stored_terms, holding, scanned, columns_of, given_block, given_query, is_marked, is_missing, written_query, published_query, is_projection, operand, known_types, types_of, translated, translated_steps, program_query}
 use Rattle.gp_sql.specs.Spelled.{table_of, source_is_spelled, terms_are_spelled, test_is_spelled, items_are_spelled, block_is_spelled, query_is_spelled, named_is_spelled, is_spelled}
-use Rattle.gp_sql.specs.Spelling.{column_name, name_of, term_text, named_text, others_named, from_text, where_text, block_text, query_text, source_text, materialized_text, expression_text, other_expression, expressions_text, with_text}
+use Rattle.gp_sql.specs.Spelling.{column_name, term_text, named_text, others_named, from_text, where_text, block_text, query_text, source_text, materialized_text, expression_text, other_expression, expressions_text, with_text}
 use Rattle.gp_sql.specs.Sql as s
 use Rattle.gp_sql.specs.Sql.{Alias, Source, FromItem, Terms, Where, Block, Query, NamedQuery, With}
 use Rattle.gp_sql.specs.Translation.{cond_test, exprs_terms, cells_terms}
@@ -504,7 +505,7 @@ tables-named (first ∷ tables) (suc own) is = tables-named tables own is
 abbrev pub HaveNames : List Table → Type 0
 HaveNames tables = list_all (λ (own : Table). list_all (λ (column : table.Column). is_name column.name) own.cols) tables ≡ true
 
-column-named : (columns : List table.Column) (n : ℕ) → list_all (λ (column : table.Column). is_name column.name) columns ≡ true → n < length columns → is_name (name_of (slice_get columns n)) ≡ true
+column-named : (columns : List table.Column) (n : ℕ) → list_all (λ (column : table.Column). is_name column.name) columns ≡ true → n < length columns → is_name (option_map_or (λ (column : table.Column). column.name) (slice_get columns n) []) ≡ true
 column-named [] n is within = absurd (omega (arith, within))
 column-named (column ∷ columns) zero is within = (and_parts (is_name column.name) (list_all (λ (other : table.Column). is_name other.name) columns) is).0
 column-named (column ∷ columns) (suc n) is within = column-named columns n (and_parts (is_name column.name) (list_all (λ (other : table.Column). is_name other.name) columns) is).1 (omega (arith, within))

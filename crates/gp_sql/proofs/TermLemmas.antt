@@ -1,5 +1,6 @@
 -- Terms and tests of SQL have the values of the expressions and conditions that they are made of.
 use Rattle.gp_sql.proofs.Prelude.{◌≡◌, ℕ, zero, suc, Bool, true, false, cond, List, [], ◌∷◌, ◌++◌, map, Some, None, ℤ, refl, sym, ap, ◌∙◌, append_assoc, append-nil, length, Option, is_some, ◌&&◌, ◌+ℤ◌, ◌-ℤ◌, ◌*ℤ◌, decimal, and_parts, length-map, Cell, Sources, identity_text, others_text, Expr, Cond, Parts, column, on_numbers, negated, compared, with_source, made_identity, holds, both, either, negation, tested, truth, value, identities}
+use Rattle.std.specs.Option.{unwrap_or}
 use Rattle.std.proofs.Common.{codes}
 use Rattle.std.specs.Prelude.{get_or}
 use Rattle.gp_base.specs.declared.cell.Cell.TheVariants as cell
@@ -10,10 +11,10 @@ use Rattle.gp_sql.specs.declared.cell_type.CellType.TheVariants.{Null, Int, Text
 use Rattle.gp_sql.specs.Sql as s
 use Rattle.gp_sql.specs.Sql.{Source, Term, Test}
 use Rattle.gp_sql.specs.SqlCells.{sql_cell, sql_row}
-use Rattle.gp_sql.specs.Meaning.{Relation, Scope, joined_cells, cell_named, cell_or, term_value, joined_value, test_truth}
+use Rattle.gp_sql.specs.Meaning.{Relation, Scope, joined_cells, cell_named, term_value, joined_value, test_truth}
 use Rattle.gp_sql.specs.Translation.{type_or_null, unless_null, cell_term, literal, bare, in_chain, id_prefix, expr_term, other_parts, cond_test}
-use Rattle.gp_sql.specs.CellTypes.{IsOf, AreOf, are_u32}
-use Rattle.gp_sql.specs.Types.{cell_type, common, is_numeric, type_at, negation_type, arithmetic_type, case_type, is_comparable, are_comparable, is_id, expr_type, cond_is_typed, parts_are_ids}
+use Rattle.gp_sql.specs.CellTypes.{IsOf, AreOf}
+use Rattle.gp_sql.specs.Types.{are_u32, cell_type, common, is_numeric, type_at, negation_type, arithmetic_type, case_type, is_comparable, are_comparable, is_id, expr_type, cond_is_typed, parts_are_ids}
 use Rattle.gp_sql.proofs.ColumnLemmas.{alone, are-long, named-cell, numbered_names}
 use Rattle.gp_sql.proofs.IdentityTexts.{concat-onto}
 use Rattle.gp_sql.proofs.TypeLemmas.{HasType, expr-has, numbers-of, negated-of, of-null, column-has}
@@ -263,9 +264,9 @@ are-wide row types is = are-long row types is ∙ sym (length-map sql_cell row)
 
 -- a column of a row of the source of these types
 pub column-value : (types : List CellType) (row : List Cell) → AreOf row types → (n : ℕ)
-    → cell_or cell.Null (cell_named (s.numbered n) (numbered_names 1 (length types)) (sql_row row)) ≡ sql_cell (column n row)
+    → unwrap_or (cell_named (s.numbered n) (numbered_names 1 (length types)) (sql_row row)) cell.Null ≡ sql_cell (column n row)
 column-value types row are n =
-    ap (λ (count : ℕ). cell_or cell.Null (cell_named (s.numbered n) (numbered_names 1 count) (sql_row row))) (are-wide row types are)
+    ap (λ (count : ℕ). unwrap_or (cell_named (s.numbered n) (numbered_names 1 count) (sql_row row)) cell.Null) (are-wide row types are)
     ∙ named-cell n (sql_row row)
     ∙ sql-column n row
 

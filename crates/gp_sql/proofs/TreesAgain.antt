@@ -4,7 +4,8 @@ use Rattle.std.proofs.Common.{Option}
 use Rattle.gp_expr.specs.declared.expr.Cmp.TheVariants as cmp
 use Rattle.gp_plantext.proofs.Rests.{onto}
 use Rattle.gp_sql.specs.Spelled.{HaveOwnNames, only_table, is_unit, is_chain, source_is_spelled, column_is_spelled, term_is_spelled, terms_are_spelled, test_is_spelled, items_are_spelled, where_is_spelled, block_is_spelled, query_is_spelled}
-use Rattle.gp_sql.specs.Spelling.{cmp_text, alias_text, source_text, item_text, from_text, term_text, joined_text, others_joined, others_named, test_text, items_text, where_text, block_text, query_text}
+use Rattle.gp_plantext.specs.Spelling.{cmp_text}
+use Rattle.gp_sql.specs.Spelling.{alias_text, source_text, item_text, from_text, term_text, joined_text, others_joined, others_named, test_text, items_text, where_text, block_text, query_text}
 use Rattle.gp_sql.specs.Sql as s
 use Rattle.gp_sql.specs.Sql.{Column, Source, Alias, FromItem, Term, Terms, Test, Items, Where, Block, Query}
 use Rattle.gp_sql.proofs.Reading.{Part, term, opposite, test, star, column_of, more_on, tail_on, joined_at, first_on, bracket_at, others_at, items_on, items_at, where_at, item_with, item_at, from_at, many_at, table_or_first, block_at, query_by, readers}

@@ -9,9 +9,10 @@ use Rattle.gp_expr.specs.Values.{number}
 use Rattle.gp_algebra.specs.Plain as p
 use Rattle.gp_sql.specs.declared.cell_type.CellType.{CellType}
 use Rattle.gp_sql.specs.declared.cell_type.CellType.TheVariants.{Null, Int, Text, Id, Mark}
-use Rattle.gp_sql.specs.CellTypes.{IsOf, AreOf, are_u32, numbers_fit, all_numbers_fit, column_types}
-use Rattle.gp_sql.specs.Types.{is_id, cell_type, common, is_numeric, type_at, negation_type, arithmetic_type, case_type, expr_type, cond_is_typed, parts_are_ids, with_first, exprs_types, row_types, common_types, both_types, rows_types, scan_types, selected_types, projected_types, product_types, are_published, published_types, StepTypes, query_types}
-use Rattle.gp_sql.specs.VersionTables.{SpanFits, SpansFit, AllSpansFit, held_rows}
+use Rattle.gp_sql.specs.CellTypes.{IsOf, AreOf, numbers_fit, all_numbers_fit, column_types}
+use Rattle.gp_sql.specs.Types.{are_u32, is_id, cell_type, common, is_numeric, type_at, negation_type, arithmetic_type, case_type, expr_type, cond_is_typed, parts_are_ids, with_first, exprs_types, row_types, common_types, both_types, rows_types, scan_types, selected_types, projected_types, product_types, are_published, published_types, StepTypes, query_types}
+use Rattle.gp_sql.specs.HeldRows.{held_rows}
+use Rattle.gp_sql.specs.VersionTables.{SpanFits, SpansFit, AllSpansFit}
 
 -- ---- cells
 

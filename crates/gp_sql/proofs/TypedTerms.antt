@@ -6,13 +6,13 @@ use Rattle.gp_base.specs.declared.cell.Cell.TheVariants as cell
 use Rattle.gp_expr.specs.Expressions as e
 use Rattle.gp_sql.specs.declared.cell_type.CellType.{CellType}
 use Rattle.gp_sql.specs.declared.cell_type.CellType.TheVariants.{Null, Int, Text, Id, Mark}
-use Rattle.gp_sql.specs.CellTypes.{are_u32, numbers_fit}
+use Rattle.gp_sql.specs.CellTypes.{numbers_fit}
 use Rattle.gp_sql.specs.Sql as s
 use Rattle.gp_sql.specs.Sql.{Term, Test}
 use Rattle.gp_sql.specs.Translation.{bare, cast_type, cell_term, cond_test, expr_term, id_prefix, id_term, in_chain, literal, other_parts, type_or_null, unless_null}
 use Rattle.gp_sql.specs.TypedQueries as q
 use Rattle.gp_sql.specs.TypedQueries.{Scope, Sources, ValueType, arithmetic, bigint, integer, is_text, of_both, term_type, test_is_typed, are_texts, varchar}
-use Rattle.gp_sql.specs.Types.{are_comparable, arithmetic_type, case_type, cell_type, common, cond_is_typed, expr_type, is_comparable, is_id, is_numeric, negation_type, parts_are_ids, type_at}
+use Rattle.gp_sql.specs.Types.{are_u32, are_comparable, arithmetic_type, case_type, cell_type, common, cond_is_typed, expr_type, is_comparable, is_id, is_numeric, negation_type, parts_are_ids, type_at}
 
 -- ---- values of a type
 

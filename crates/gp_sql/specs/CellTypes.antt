@@ -1,5 +1,5 @@
 -- Part of the statement: the types of cells, and those of the columns of a table.
-use Rattle.std.specs.Prelude.{◌≡◌, ℕ, Bool, true, ◌&&◌, List, [], ◌∷◌, map}
+use Rattle.std.specs.Prelude.{◌≡◌, Bool, true, ◌&&◌, List, [], ◌∷◌, map}
 use Rattle.gp_base.specs.declared.cell.Cell.{Cell}
 use Rattle.gp_base.specs.declared.cell.Cell.TheVariants as cell
 use Rattle.gp_base.specs.declared.table.Column.{Column}
@@ -11,13 +11,10 @@ use Rattle.gp_base.specs.Tokens.{is_u32}
 use Rattle.gp_sql.specs.declared.cell_type.CellType.{CellType}
 use Rattle.gp_sql.specs.declared.cell_type.CellType.TheVariants.{Int, Text, Id, Mark}
 
--- the numbers of an identity have 32 bits
-abbrev pub are_u32 : ℕ → ℕ → ℕ → Bool
-are_u32 t k n = is_u32 t && (is_u32 k && is_u32 n)
-
 abbrev mutual
+  -- the numbers of an identity have 32 bits
   pub numbers_fit : Identity → Bool
-  numbers_fit (identity t k n ids) = are_u32 t k n && all_numbers_fit ids
+  numbers_fit (identity t k n ids) = (is_u32 t && (is_u32 k && is_u32 n)) && all_numbers_fit ids
 
   pub all_numbers_fit : Sources → Bool
   all_numbers_fit no_sources = true
@@ -35,9 +32,8 @@ IsOf _ _ = ⊥
 -- a row with a cell of each type, and no other
 abbrev pub AreOf : List Cell → List CellType → Type 0
 AreOf [] [] = Unit {0}
-AreOf [] (type ∷ types) = ⊥
-AreOf (cell ∷ cells) [] = ⊥
 AreOf (cell ∷ cells) (type ∷ types) = IsOf cell type × AreOf cells types
+AreOf _ _ = ⊥
 
 abbrev pub kind_type : Kind → CellType
 kind_type kind.Int = Int

@@ -1,4 +1,5 @@
 pub mod CellTypes
+pub mod HeldRows
 pub mod ItemTexts
 pub mod Meaning
 pub mod NamedQueries

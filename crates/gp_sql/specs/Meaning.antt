@@ -3,11 +3,13 @@
 -- rows means nothing: contracts compare them as bags.
 use Rattle.std.specs.Prelude.{ℕ, suc, ◌==◌, ◌&&◌, Bool, true, false, List, [], ◌∷◌, ◌++◌, map, filter, Option, Some, None, if◌then◌else◌, ◌+ℤ◌, ◌-ℤ◌, ◌*ℤ◌}
 use Rattle.std.specs.List.{flat_map}
+use Rattle.std.specs.Option.{option_to_list, unwrap_or}
 use Rattle.gp_base.specs.declared.cell.Cell.{Cell}
 use Rattle.gp_base.specs.declared.cell.Cell.TheVariants as cell
 use Rattle.gp_expr.specs.declared.ternary.Ternary.{Ternary}
 use Rattle.gp_expr.specs.Values as v
 use Rattle.gp_expr.specs.Values.{on_numbers, negated, compared, known, holds, both, either, negation, tested}
+use Rattle.gp_plantext.specs.Spellable.{has_item}
 use Rattle.gp_sql.specs.Sql as s
 use Rattle.gp_sql.specs.Sql.{Column, Source, Alias, FromItem, Term, Terms, Test, Items, Where, Block, Query, NamedQuery, With}
 
@@ -42,27 +44,26 @@ same_source (s.step n) (s.step m) = n == m
 same_source (s.query n) (s.query m) = n == m
 same_source _ _ = false
 
+abbrev pub same_alias : Alias → Alias → Bool
+same_alias s.no_alias s.no_alias = true
+same_alias s.x s.x = true
+same_alias s.y s.y = true
+same_alias _ _ = false
+
 -- whether a name with the first alias, or without one, may be of the source with the second one
 abbrev pub is_of : Alias → Alias → Bool
 is_of s.no_alias _ = true
-is_of s.x s.x = true
-is_of s.y s.y = true
-is_of _ _ = false
+is_of alias other = same_alias alias other
 
 abbrev pub cell_named : Column → List Column → List Cell → Option Cell
-cell_named c [] row = None
-cell_named c (name ∷ names) [] = None
 cell_named c (name ∷ names) (x ∷ row) = if same_column c name then Some x else cell_named c names row
-
-abbrev pub cell_or : Cell → Option Cell → Cell
-cell_or other None = other
-cell_or other (Some x) = x
+cell_named c _ _ = None
 
 -- a name is found in the innermost FROM that has it
 abbrev pub cell_of : Alias → Column → Scope → Cell
 cell_of alias c [] = cell.Null
 cell_of alias c (entry ∷ scope) =
-    if is_of alias entry.alias then cell_or (cell_of alias c scope) (cell_named c entry.columns entry.row) else cell_of alias c scope
+    if is_of alias entry.alias then unwrap_or (cell_named c entry.columns entry.row) (cell_of alias c scope) else cell_of alias c scope
 
 -- the names of terms, from this number on
 abbrev pub names_from : ℕ → Terms → List Column
@@ -70,9 +71,9 @@ names_from n s.no_terms = []
 names_from n (s.term a others) = s.numbered n ∷ names_from (suc n) others
 
 -- a term by itself has a name where it is a column
-abbrev pub term_name : Term → List Column
-term_name (s.column alias c) = c ∷ []
-term_name _ = []
+abbrev pub term_name : Term → Option Column
+term_name (s.column alias c) = Some c
+term_name _ = None
 
 -- ---- rows
 
@@ -80,10 +81,6 @@ term_name _ = []
 abbrev pub joined_cells : Cell → Cell → Cell
 joined_cells (cell.Text text) (cell.Text others) = cell.Text (text ++ others)
 joined_cells _ _ = cell.Null
-
-abbrev pub has_row : List (List Cell) → Bool
-has_row [] = false
-has_row (row ∷ rows) = true
 
 -- given what each source has
 module _ (relations : Source → Relation) where
@@ -123,7 +120,7 @@ module _ (relations : Source → Relation) where
     test_truth scope (s.and c d) = both (test_truth scope c) (test_truth scope d)
     test_truth scope (s.or c d) = either (test_truth scope c) (test_truth scope d)
     test_truth scope (s.not c) = negation (test_truth scope c)
-    test_truth scope (s.exists query) = known (has_row (query_rows scope query))
+    test_truth scope (s.exists query) = known (has_item (query_rows scope query))
     test_truth scope (s.bracket c) = test_truth scope c
 
     -- the row of a choice
@@ -149,7 +146,7 @@ module _ (relations : Source → Relation) where
   abbrev pub items_names : List FromItem → Items → List Column
   items_names from s.all = flat_map (λ (item : FromItem). (relations item.source).columns) from
   items_names from (s.named terms) = names_from 1 terms
-  items_names from (s.single a) = term_name a
+  items_names from (s.single a) = option_to_list (term_name a)
 
   abbrev pub block_names : Block → List Column
   block_names (s.select items from cond) = items_names from items

@@ -3,6 +3,7 @@
 -- left, or none.
 use Rattle.std.specs.Prelude.{◌≡◌, ◌≢◌, ℕ, pos, Bool, true, false, ◌&&◌, ◌==◌, AllPairs, List, [], ◌∷◌, map, get_or, slice_get, Option, Some, None}
 use Rattle.std.specs.List.{AllByRecursion, list_all}
+use Rattle.std.specs.Option.{option_map_or}
 use Rattle.gp_base.specs.declared.table.Column as table
 use Rattle.gp_base.specs.declared.table.Table.{Table}
 use Rattle.gp_base.specs.Catalogs.{table_names}
@@ -28,10 +29,6 @@ abbrev pub only_table : List FromItem → Option ℕ
 only_table (item ∷ []) = table_of item.source
 only_table _ = None
 
-abbrev pub is_table : Option ℕ → ℕ → Bool
-is_table None table = false
-is_table (Some only) table = only == table
-
 -- what needs no bracket behind NOT, beside OR and before IS TRUE
 abbrev pub is_unit : Test → Bool
 is_unit (s.compare cmp a b) = true
@@ -53,7 +50,7 @@ module _ (tables : List Table) where
 
   -- where the columns of this table, or of none, may stand
   abbrev pub column_is_spelled : Option ℕ → Column → Bool
-  column_is_spelled only (s.stored table n) = is_table only table && is_name (column_name (slice_get tables table) n)
+  column_is_spelled only (s.stored table n) = option_map_or (λ own. own == table) only false && is_name (column_name (slice_get tables table) n)
   column_is_spelled only (s.numbered n) = fits_number (pos n)
   column_is_spelled only _ = true
 

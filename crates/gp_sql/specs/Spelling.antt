@@ -1,7 +1,8 @@
 -- Part of the statement: the text of a query of SQL. Each operator on values has its brackets; those of conditions are in the tree.
-use Rattle.std.specs.Prelude.{ℕ, suc, true, false, Bool, List, [], ◌∷◌, ◌++◌, codes, get_or, slice_get, Option, Some, None}
+use Rattle.std.specs.Prelude.{ℕ, suc, true, false, Bool, List, [], ◌∷◌, ◌++◌, codes, get_or, slice_get, Option}
 use Rattle.std.specs.Fmt.{decimal, signed_decimal}
 use Rattle.std.specs.List.{concat, flat_map}
+use Rattle.std.specs.Option.{option_and_then, option_map_or}
 use Rattle.gp_base.specs.declared.cell.Cell.TheVariants as cell
 use Rattle.gp_base.specs.declared.table.Column as table
 use Rattle.gp_base.specs.declared.table.Table.{Table}
@@ -9,28 +10,15 @@ use Rattle.gp_base.specs.Catalogs.{table_names}
 use Rattle.gp_base.specs.Numbered.{newline}
 use Rattle.gp_base.specs.Texts.{cell_text}
 use Rattle.gp_base.specs.Writing.{joined_texts}
-use Rattle.gp_expr.specs.declared.expr.Cmp.{Cmp}
-use Rattle.gp_expr.specs.declared.expr.Cmp.TheVariants as cmp
+use Rattle.gp_plantext.specs.Spelling.{cmp_text}
 use Rattle.gp_sql.specs.Sql as s
 use Rattle.gp_sql.specs.Sql.{SqlType, Column, Source, Alias, FromItem, Term, Terms, Test, Items, Where, Block, Query, NamedQuery, With}
 
 -- ---- words
 
--- a text in quotes, with each quote inside doubled
-abbrev pub quoted : List ℕ → List ℕ
-quoted text = cell_text (cell.Text text)
-
 abbrev pub type_text : SqlType → List ℕ
 type_text s.bigint = codes "BIGINT"
 type_text s.varchar = codes "VARCHAR(255)"
-
-abbrev pub cmp_text : Cmp → List ℕ
-cmp_text cmp.Eq = codes " = "
-cmp_text cmp.Ne = codes " <> "
-cmp_text cmp.Lt = codes " < "
-cmp_text cmp.Le = codes " <= "
-cmp_text cmp.Gt = codes " > "
-cmp_text cmp.Ge = codes " >= "
 
 -- before a column, and behind a source
 abbrev pub prefix_text : Alias → List ℕ
@@ -49,14 +37,9 @@ materialized_text false = []
 
 -- ---- names
 
-abbrev pub name_of : Option table.Column → List ℕ
-name_of None = []
-name_of (Some column) = column.name
-
 -- both are there in a query that has types
 abbrev pub column_name : Option Table → ℕ → List ℕ
-column_name None n = []
-column_name (Some table) n = name_of (slice_get table.cols n)
+column_name found n = option_map_or (λ (column : table.Column). column.name) (option_and_then (λ (own : Table). slice_get own.cols n) found) []
 
 module _ (tables : List Table) where
   abbrev pub column_text : Column → List ℕ
@@ -86,7 +69,7 @@ module _ (tables : List Table) where
     term_text (s.null type) = concat (codes "CAST(NULL AS " ∷ type_text type ∷ codes ")" ∷ [])
     term_text (s.number z) = signed_decimal z
     term_text (s.cast_number z) = concat (codes "CAST(" ∷ signed_decimal z ∷ codes " AS BIGINT)" ∷ [])
-    term_text (s.text text) = quoted text
+    term_text (s.text text) = cell_text (cell.Text text)
     term_text (s.plus a b) = concat (codes "(" ∷ term_text a ∷ codes " + " ∷ term_text b ∷ codes ")" ∷ [])
     term_text (s.minus a b) = concat (codes "(" ∷ term_text a ∷ codes " - " ∷ term_text b ∷ codes ")" ∷ [])
     term_text (s.times a b) = concat (codes "(" ∷ term_text a ∷ codes " * " ∷ term_text b ∷ codes ")" ∷ [])

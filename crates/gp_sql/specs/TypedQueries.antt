@@ -9,7 +9,7 @@ use Rattle.gp_base.specs.declared.table.Column as t
 use Rattle.gp_base.specs.declared.table.Kind.{Kind}
 use Rattle.gp_base.specs.declared.table.Kind.TheVariants as kind
 use Rattle.gp_base.specs.declared.table.Table.{Table}
-use Rattle.gp_sql.specs.Meaning.{is_of, same_column, same_source}
+use Rattle.gp_sql.specs.Meaning.{is_of, same_alias, same_column, same_source, term_name}
 use Rattle.gp_sql.specs.Sql as s
 use Rattle.gp_sql.specs.Sql.{SqlType, Column, Source, Alias, FromItem, Term, Terms, Test, Items, Where, Block, Query, NamedQuery, With}
 
@@ -84,24 +84,13 @@ column_before name type columns = option_and_then (λ own. option_map (λ others
 -- UNION ALL: equally many columns on both sides, of types in common; the names are those of the first side
 abbrev pub united : List TypedColumn → List TypedColumn → Option (List TypedColumn)
 united [] [] = Some []
-united [] (b ∷ others) = None
-united (a ∷ columns) [] = None
 united (a ∷ columns) (b ∷ others) = column_before a.name (common a.type b.type) (united columns others)
+united _ _ = None
 
 abbrev pub union_columns : Option (List TypedColumn) → Option (List TypedColumn) → Option (List TypedColumn)
 union_columns columns others = option_and_then (λ own. option_and_then (united own) others) columns
 
-abbrev pub term_name : Term → Option Column
-term_name (s.column alias c) = Some c
-term_name _ = None
-
 -- ---- FROM
-
-abbrev pub same_alias : Alias → Alias → Bool
-same_alias s.no_alias s.no_alias = true
-same_alias s.x s.x = true
-same_alias s.y s.y = true
-same_alias _ _ = false
 
 -- an item before others, of which none has its alias
 abbrev pub item_before : Alias → Option (List TypedColumn) → Option Scope → Option Scope

@@ -1,15 +1,11 @@
--- Part of the statement: row versions as rows of SQL, and as what a plain program scans.
+-- Part of the statement: row versions as rows of SQL.
 use Rattle.std.specs.Prelude.{◌≡◌, ℕ, zero, suc, true, List, [], ◌∷◌, map, pos, slice_get, Option, Some, None}
 use Rattle.std.specs.List.{AllByRecursion}
 use Rattle.gp_base.specs.declared.cell.Cell.{Cell}
 use Rattle.gp_base.specs.declared.cell.Cell.TheVariants as cell
 use Rattle.gp_base.specs.declared.table.Table.{Table}
-use Rattle.gp_base.specs.Annotated.{unannotated}
 use Rattle.gp_base.specs.Identities.{identity_text}
-use Rattle.gp_algebra.specs.Encoding.{encoded_row}
-use Rattle.gp_algebra.specs.Plain.{PlainEnvironment}
 use Rattle.gp_versions.specs.declared.span.Span.{Span}
-use Rattle.gp_versions.specs.Spans.{rows_at}
 use Rattle.gp_algebra.specs.Statements.{width_of}
 use Rattle.gp_sql.specs.Meaning.{Relation}
 use Rattle.gp_sql.specs.Sql as s
@@ -46,7 +42,3 @@ SpansFit (Some table) spans = AllByRecursion (SpanFits table) spans
 
 abbrev pub AllSpansFit : List Table → (ℕ → List Span) → Type 0
 AllSpansFit tables spans = (table : ℕ) → SpansFit (slice_get tables table) (spans table)
-
--- the rows of each table in each version: those of the row versions that hold it
-abbrev pub held_rows : (ℕ → List Span) → PlainEnvironment
-held_rows spans version table = map (encoded_row (λ annotation. [])) (rows_at unannotated version (spans table))

@@ -10,6 +10,7 @@ ghost use Rattle.gp_algebra.specs.Plain.{PlainEnvironment, PlainProgram, program
 ghost use Rattle.gp_algebra.specs.Scans.{HaveSameRowsOn, program_scans};
 ghost use Rattle.gp_plantext.specs.Spellable.{is_spellable};
 ghost use Rattle.gp_versions.specs.declared.span.Span.{Span};
+ghost use Rattle.gp_sql.specs.HeldRows.{held_rows};
 ghost use Rattle.gp_sql.specs.Meaning.{rows_of};
 ghost use Rattle.gp_sql.specs.NamedQueries.{program_query};
 ghost use Rattle.gp_sql.specs.Spelled.{HaveOwnNames, SpellsQuery, is_spelled};
@@ -18,7 +19,7 @@ ghost use Rattle.gp_sql.specs.Sql.{With};
 ghost use Rattle.gp_sql.specs.SqlCells.{sql_rows};
 ghost use Rattle.gp_sql.specs.TypedQueries.{is_well_typed};
 ghost use Rattle.gp_sql.specs.Types.{is_typed};
-ghost use Rattle.gp_sql.specs.VersionTables.{AllSpansFit, held_rows, version_tables};
+ghost use Rattle.gp_sql.specs.VersionTables.{AllSpansFit, version_tables};
 
 /// The query of a program gives the rows of the program, over any tables of row versions that have the types of their columns: in
 /// the same order where the program scans the row versions in their order, and as a bag on every environment in which each

@@ -4,6 +4,7 @@ ghost use Rattle.std.specs.Prelude.{◌≡◌, ◌++◌, ◌∷◌, [], codes, m
 ghost use Rattle.std.specs.List.{concat};
 ghost use Rattle.gp_expr.specs.Expressions as e;
 ghost use Rattle.gp_expr.specs.Views.{cond_view, expr_view, parts_of};
+ghost use Rattle.gp_plantext.specs.Spelling.{cmp_text};
 ghost use Rattle.gp_sql.specs.Spelling as p;
 ghost use Rattle.gp_sql.specs.Sql as s;
 ghost use Rattle.gp_sql.specs.Translation as t;
@@ -17,7 +18,7 @@ use std::alloc::Global;
 
 /// A comparison, with the blanks around it.
 fn cmp_text(cmp: Cmp) -> &'static [u8]
-    ensures { result.now ≡ p.cmp_text cmp }
+    ensures { result.now ≡ cmp_text cmp }
 {
     match cmp {
         Cmp::Eq => b" = ",

@@ -29,8 +29,8 @@ pub use Rattle.gp_prov.specs.ToPlain.{identities_from, users_from}
 pub use Rattle.gp_reenact.specs.Programs.{merged_at}
 pub use Rattle.gp_rewrite.specs.Rewriting.{rewritten}
 pub use Rattle.gp_sql.proofs.SubstitutionTypes.{substituted-types}
-pub use Rattle.gp_sql.specs.CellTypes.{are_u32, column_types, kind_type}
-pub use Rattle.gp_sql.specs.Types.{StepTypes, both_types, case_type, cell_type, common, common_types, cond_is_typed, expr_type, exprs_types, is_id, is_typed, parts_are_ids, product_types, projected_types, published_types, query_types, row_types, scan_types, selected_types, type_at, with_first}
+pub use Rattle.gp_sql.specs.CellTypes.{column_types, kind_type}
+pub use Rattle.gp_sql.specs.Types.{are_u32, StepTypes, both_types, case_type, cell_type, common, common_types, cond_is_typed, expr_type, exprs_types, is_id, is_typed, parts_are_ids, product_types, projected_types, published_types, query_types, row_types, scan_types, selected_types, type_at, with_first}
 pub use Rattle.gp_sql.specs.declared.cell_type.CellType.{CellType}
 pub use Rattle.gp_sql.specs.declared.cell_type.CellType.TheVariants.{Id, Int, Mark, Null, Text}
 pub use Rattle.gp_typed.specs.StatementTypes.{are_into, branch_types, fill, is_into, joined_types, optional_cond_is_typed, select_is_typed, select_types, set_is_typed, statement_is_typed, statements_are_typed, table_types}
