@@ -58,9 +58,9 @@ use Rattle.gp_dump.proofs.FittingTables.{statements_of_dumps}
 use Rattle.gp_dump.proofs.LawLemmas.{whole-text}
 use Rattle.gp_ask.specs.Answerable.{has_few_items, question_is_valid}
 use Rattle.gp_ask.specs.Asking.{asked}
-use Rattle.gp_ask.specs.Explained.{ExplainsAsk, ExplainsLines, ExplainsQuestion, LinesExplain}
+use Rattle.gp_ask.specs.Explained.{AreLinesOf, ExplainsAsk, ExplainsQuestion}
 use Rattle.gp_ask.specs.Programs.{explained_text, program_lines}
-use Rattle.gp_ask.specs.Questions.{AreQuestions, ReadQuestion}
+use Rattle.gp_ask.specs.Questions.{AreQuestions, EachQuestion, ReadQuestion}
 use Rattle.gp_ask.specs.Seeing.{seen_refusal}
 use Rattle.gp_ask.proofs.FewLemmas.{checked-few, meant-few}
 use Rattle.gp_ask.proofs.ReadAnswers.{one-file}
@@ -320,7 +320,7 @@ module _ (entries : List Entry) (is : IsExplained entries) (query : y.Query) (va
   asked_explained expected prov point says = go expected refl (checked_query (tables_in entries) query) refl
     where
       go : (refusal : Option Refusal) → expected ≡ refusal → (found : Result Select Refusal) → checked_query (tables_in entries) query ≡ found
-          → IfOk (asked refusal found) (λ (select : Select). LinesExplain entries point select prov (program_lines entries prov point select))
+          → IfOk (asked refusal found) (λ (select : Select). AreLinesOf (Explains entries point select prov) (program_lines entries prov point select))
       go (Some refusal) known found e = tt
       go None known (Err refusal) e = tt
       go None known (Ok select) e =
@@ -382,7 +382,7 @@ module _ (entries : List Entry) (is : IsExplained entries) (few : length entries
           let reads = (lines-read question IsQuestion capped_question question_shape lawful-question questions-fair text own).0 e in
           question_explained own (read-valid text own e) reads.text.within
 
-  file_explained : (lines : List (ℕ × List ℕ)) → ExplainsLines program_lines entries (read_lines question_of lines)
+  file_explained : (lines : List (ℕ × List ℕ)) → EachQuestion (ExplainsQuestion program_lines entries) (read_lines question_of lines)
   file_explained [] = tt
   file_explained (line ∷ lines) = (line_explained line.1, file_explained lines)
 
@@ -405,11 +405,11 @@ pub questions_explained : (bytes file : List ℕ) (dump : Dump) (questions : Lis
     → ((changes : List y.LogChange) → tables_are_valid (tables_in dump.entries) ≡ true → have_statements changes ≡ true → changes_are_valid changes ≡ true → ChecksFit parameters dump.entries changes)
     → ((new : List Entry) (changes : List y.LogChange) → IsReplayable dump.entries → ChecksFit parameters dump.entries changes → changed_log parameters dump.entries changes ≡ Ok new → IsReplayable new)
     → ((new : List Entry) (changes : List y.LogChange) → changed_log parameters dump.entries changes ≡ Ok new → tables_in new ≡ tables_in dump.entries)
-    → ExplainsLines program_lines dump.entries questions
+    → EachQuestion (ExplainsQuestion program_lines dump.entries) questions
 questions_explained bytes file dump questions formed are sessions fitting kept same =
     let is : IsDump dump = (whole-text bytes dump formed).rules in
     let own = dump_explained dump is in
     let replayable : IsReplayable dump.entries = record { sessions = sessions; fits = statements_of_dumps dump is } in
-    subst (ExplainsLines program_lines dump.entries) (sym (one-file file questions are))
+    subst (EachQuestion (ExplainsQuestion program_lines dump.entries)) (sym (one-file file questions are))
     (file_explained dump.entries own is.few_entries
     (λ new changes kind fine e. ((kept new changes replayable (fitting changes own.valid kind fine) e).fits, same new changes e)) (script_lines file))

@@ -61,8 +61,9 @@ use Rattle.gp_dump.proofs.LawLemmas.{whole-text}
 use Rattle.gp_ask.specs.Answerable.{has_few_items, question_is_valid}
 use Rattle.gp_ask.specs.Asking.{asked, table_spans}
 use Rattle.gp_ask.specs.Programs.{sql_lines, sql_text}
-use Rattle.gp_ask.specs.Questions.{AreQuestions, ReadQuestion}
-use Rattle.gp_ask.specs.SqlAnswers.{Asks, AsksLines, AsksQuestion, AsksState, LinesAsk, held_by}
+use Rattle.gp_ask.specs.Explained.{AreLinesOf}
+use Rattle.gp_ask.specs.Questions.{AreQuestions, EachQuestion, ReadQuestion}
+use Rattle.gp_ask.specs.SqlAnswers.{Asks, AsksQuestion, AsksState, held_by}
 use Rattle.gp_ask.proofs.ColumnNames.{all-named}
 use Rattle.gp_ask.proofs.FewLemmas.{checked-few}
 use Rattle.gp_ask.proofs.ExplainedLemmas.{IsExplained, dump_explained, query_fits}
@@ -206,7 +207,7 @@ module _ (entries : List Entry) (is : IsExplained entries) (readable : AreReadab
   state_asks point query valid few = go (log_refusal entries point) refl (checked_query tables query) refl
     where
       go : (refusal : Option Refusal) → log_refusal entries point ≡ refusal → (found : Result Select Refusal) → checked_query tables query ≡ found
-          → IfOk (asked refusal found) (λ (select : Select). LinesAsk entries point select (sql_lines entries false point select))
+          → IfOk (asked refusal found) (λ (select : Select). AreLinesOf (Asks entries point select) (sql_lines entries false point select))
       go (Some refusal) known found e = tt
       go None known (Err refusal) e = tt
       go None known (Ok select) e = (
@@ -227,12 +228,12 @@ module _ (entries : List Entry) (is : IsExplained entries) (readable : AreReadab
       go (Err fault) e = tt
       go (Ok own) e = question_asks own (read-valid text own e)
 
-  lines_ask : (lines : List (ℕ × List ℕ)) → AsksLines sql_lines entries (read_lines question_of lines)
+  lines_ask : (lines : List (ℕ × List ℕ)) → EachQuestion (AsksQuestion sql_lines entries) (read_lines question_of lines)
   lines_ask [] = tt
   lines_ask (line ∷ lines) = (line_asks line.1, lines_ask lines)
 
 pub questions_ask : (bytes file : List ℕ) (dump : Dump) (questions : List ReadQuestion) → WellFormed bytes dump → AreQuestions file questions → SqlLaws dump.entries
-    → AsksLines sql_lines dump.entries questions
+    → EachQuestion (AsksQuestion sql_lines dump.entries) questions
 questions_ask bytes file dump questions formed are laws =
     let is : IsDump dump = (whole-text bytes dump formed).rules in
-    subst (AsksLines sql_lines dump.entries) (sym (one-file file questions are)) (lines_ask dump.entries (dump_explained dump is) is.commands laws (script_lines file))
+    subst (EachQuestion (AsksQuestion sql_lines dump.entries)) (sym (one-file file questions are)) (lines_ask dump.entries (dump_explained dump is) is.commands laws (script_lines file))

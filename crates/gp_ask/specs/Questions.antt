@@ -1,6 +1,6 @@
 -- Part of the statement: the answers to a file of questions. Its lines are those of a script: blank lines and comments get no answer, but are counted.
-use Rattle.std.specs.Prelude.{ℕ, Bool, true, false, List, Some, Result, Ok, Err}
-use Rattle.std.specs.List.{flat_map, list_any}
+use Rattle.std.specs.Prelude.{ℕ, Bool, true, false, IfOk, List, Some, Result, Ok, Err}
+use Rattle.std.specs.List.{AllByRecursion, flat_map, list_any}
 use Rattle.gp_base.specs.declared.table.Table.{Table}
 use Rattle.gp_grammar.specs.Limits.{question_shape}
 use Rattle.gp_grammar.specs.LineReading.{Fault, AreReadAs}
@@ -20,6 +20,10 @@ ReadQuestion = ℕ × Result y.Question Fault
 -- these are the questions of the file
 abbrev pub AreQuestions : List ℕ → List ReadQuestion → Type 0
 AreQuestions file questions = AreReadAs IsQuestion question_shape (script_lines file) questions
+
+-- each line that is read as a question
+abbrev pub EachQuestion : (y.Question → Type 0) → List ReadQuestion → Type 0
+EachQuestion Is questions = AllByRecursion (λ (line : ReadQuestion). IfOk line.1 Is) questions
 
 -- a refusal, or a dump that is not that of a history: the exit status tells of both
 abbrev pub is_refused : Answered → Bool

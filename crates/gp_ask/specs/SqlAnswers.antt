@@ -2,14 +2,12 @@
 -- versions whose rows have cells of their columns' types, whatever fills them, the query gives the rows of the question's query over the state that the logged
 -- statements lead to from the versions that these rows hold.
 use Rattle.std.specs.Prelude.{◌≡◌, ℕ, ◌^◌, ◌<◌, false, true, List, length, IfOk}
-use Rattle.std.specs.List.{AllByRecursion}
 use Rattle.gp_base.specs.Annotated.{Environment, monomials}
 use Rattle.gp_base.specs.Tokens.{Monomial}
 use Rattle.gp_grammar.specs.Syntax as y
 use Rattle.gp_algebra.specs.Answers.{answer, cells_of}
 use Rattle.gp_algebra.specs.Statements.{Select}
 use Rattle.gp_check.specs.Checking.{checked_query}
-use Rattle.gp_explain.specs.LineTexts.{AreLines}
 use Rattle.gp_log.specs.LogFacts.{tables_in}
 use Rattle.gp_machine.specs.Entries.{Entry}
 use Rattle.gp_machine.specs.Points.{at_point}
@@ -24,7 +22,7 @@ use Rattle.gp_sql.specs.VersionTables.{AllSpansFit, version_tables}
 use Rattle.gp_versions.specs.declared.span.Span.{Span}
 use Rattle.gp_versions.specs.Spans.{rows_at}
 use Rattle.gp_ask.specs.Asking.{Programs, asked, table_spans}
-use Rattle.gp_ask.specs.Questions.{ReadQuestion}
+use Rattle.gp_ask.specs.Explained.{AreLinesOf}
 
 -- the versions of a database that row versions hold
 abbrev pub held_by : List (List Span) → Environment Monomial
@@ -45,22 +43,14 @@ pub record Asks (entries : List Entry) (point : y.Point) (select : Select) (text
   pub means : (stored : List (List Span)) → AreStored entries stored
       → rows_of (version_tables (tables_in entries) (table_spans stored)) query ≡ sql_rows (cells_of (answer monomials select (at_point monomials entries point (held_by stored))))
 
--- these are the lines of a text that asks for them
-abbrev pub LinesAsk : List Entry → y.Point → Select → List (List ℕ) → Type 0
-LinesAsk entries point select lines = (text : List ℕ) × AreLines lines text × Asks entries point select text
-
 module _ (programs : Programs) where
   -- unless the question is refused
   abbrev pub AsksState : List Entry → y.Point → y.Query → Type 0
   AsksState entries point query =
       IfOk (asked (log_refusal entries point) (checked_query (tables_in entries) query))
-      (λ (select : Select). LinesAsk entries point select (programs entries false point select))
+      (λ (select : Select). AreLinesOf (Asks entries point select) (programs entries false point select))
 
   abbrev pub AsksQuestion : List Entry → y.Question → Type 0
   AsksQuestion entries (y.ask (y.of_state y.rows point) query) = AsksState entries point query
   AsksQuestion entries (y.ask (y.of_state (y.explain false) point) query) = AsksState entries point query
   AsksQuestion entries question = Unit {0}
-
-  -- each line of a file of questions that is read as one that SQL asks
-  abbrev pub AsksLines : List Entry → List ReadQuestion → Type 0
-  AsksLines entries questions = AllByRecursion (λ (line : ReadQuestion). IfOk line.1 (AsksQuestion entries)) questions

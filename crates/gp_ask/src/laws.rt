@@ -46,19 +46,19 @@ ghost use Rattle.gp_ask.specs.Asking.{Programs, table_spans};
 ghost use Rattle.gp_ask.specs.Changes.{Change, changed_by, commit_texts};
 ghost use Rattle.gp_ask.specs.Deltas.{added_rows, delta, removed_rows, signed_row};
 ghost use Rattle.gp_ask.specs.Differences.{rows_in};
-ghost use Rattle.gp_ask.specs.Explained.{ExplainsLines};
+ghost use Rattle.gp_ask.specs.Explained.{ExplainsQuestion};
 ghost use Rattle.gp_ask.specs.Hypothetical.{remaking_refusal, replayed_dump};
 ghost use Rattle.gp_ask.specs.Intervals.{has_version, intervals, refusal_upto, version_rows};
 ghost use Rattle.gp_ask.specs.Isolated.{IsIsolated, LosesToFirst};
 ghost use Rattle.gp_ask.specs.Made.{unmade_refusal};
 ghost use Rattle.gp_ask.specs.Answers as answers;
 ghost use Rattle.gp_ask.specs.Programs.{program_lines, sql_lines};
-ghost use Rattle.gp_ask.specs.Questions.{AreQuestions, ReadQuestion, is_refused};
+ghost use Rattle.gp_ask.specs.Questions.{AreQuestions, EachQuestion, ReadQuestion, is_refused};
 ghost use Rattle.gp_ask.specs.Replays.{dump_in};
 ghost use Rattle.gp_ask.specs.SerialAnswers.{serial_answer};
 ghost use Rattle.gp_ask.specs.SerialHistories.{IsTrue, RunsInCycle, RunsSerially};
 ghost use Rattle.gp_ask.specs.ShownWrites.{ShowsWrites};
-ghost use Rattle.gp_ask.specs.SqlAnswers.{AreStored, AsksLines};
+ghost use Rattle.gp_ask.specs.SqlAnswers.{AreStored, AsksQuestion};
 ghost use Rattle.gp_ask.specs.declared.answered.Answered.TheVariants.{Lines};
 ghost use Rattle.gp_ask.specs.declared.answered.Heading.TheVariants.{Cycle, Serial};
 
@@ -289,7 +289,7 @@ pub fn changed_histories_answer_their_questions()
 pub fn programs_explain_their_questions()
     ensures { (bytes file : List ℕ) (dump : Dump) (questions : List ReadQuestion)
         → WellFormed bytes dump → AreQuestions file questions
-        → ExplainsLines program_lines dump.entries questions }
+        → EachQuestion (ExplainsQuestion program_lines dump.entries) questions }
 {
     changed_logs_are_replayable();
     logs_keep_their_sessions()
@@ -301,7 +301,7 @@ pub fn programs_explain_their_questions()
 pub fn queries_ask_their_questions()
     ensures { (bytes file : List ℕ) (dump : Dump) (questions : List ReadQuestion)
         → WellFormed bytes dump → AreQuestions file questions
-        → AsksLines sql_lines dump.entries questions }
+        → EachQuestion (AsksQuestion sql_lines dump.entries) questions }
 {
     queries_give_the_rows_of_programs();
     queries_of_programs_are_spelled();

@@ -50,16 +50,16 @@ use Rattle.gp_ask.specs.declared.format.Format.{Format}
 use Rattle.gp_ask.specs.Answers.{answer_to, held_to}
 use Rattle.gp_ask.specs.Asking.{Programs}
 use Rattle.gp_ask.specs.Programs.{program_lines, programs_in, sql_lines}
-use Rattle.gp_ask.specs.SqlAnswers.{AreStored, AsksLines}
+use Rattle.gp_ask.specs.SqlAnswers.{AreStored, AsksQuestion}
 use Rattle.gp_ask.specs.declared.answered.Answered as reply
 use Rattle.gp_ask.specs.Compared.{AnswersAsMade, compares_histories}
 use Rattle.gp_ask.specs.Deltas.{IsDifference, delta}
-use Rattle.gp_ask.specs.Explained.{ExplainsLines}
+use Rattle.gp_ask.specs.Explained.{ExplainsQuestion}
 use Rattle.gp_ask.specs.Hypothetical.{remaking_refusal, replayed_dump}
 use Rattle.gp_ask.specs.Intervals.{has_version, intervals}
 use Rattle.gp_ask.specs.Isolated.{IsIsolated, LosesToFirst}
 use Rattle.gp_whatif.specs.Changed.{changed_log}
-use Rattle.gp_ask.specs.Questions.{AreQuestions, ReadQuestion, is_refused}
+use Rattle.gp_ask.specs.Questions.{AreQuestions, EachQuestion, ReadQuestion, is_refused}
 use Rattle.gp_ask.specs.SerialAnswers.{serial_answer}
 use Rattle.gp_ask.specs.SerialHistories.{IsTrue, RunsInCycle, RunsSerially}
 use Rattle.gp_ask.specs.declared.answered.Answered.TheVariants.{Lines}
@@ -169,8 +169,8 @@ pub record DumpLaws : Type 0 where
   pub held : (programs : Programs) (lines : List Line) (question : y.Question)
       → answer_to programs (dump_of (after unannotated parameters start lines)) question ≡ held_to programs (after monomials parameters start lines) question
   pub checked : (dump : Dump) → IsDump dump → difference dump ≡ None → IsOfHistory dump
-  pub explained : (bytes file : List ℕ) (dump : Dump) (questions : List ReadQuestion) → WellFormed bytes dump → AreQuestions file questions → ExplainsLines program_lines dump.entries questions
-  pub asked : (bytes file : List ℕ) (dump : Dump) (questions : List ReadQuestion) → WellFormed bytes dump → AreQuestions file questions → AsksLines sql_lines dump.entries questions
+  pub explained : (bytes file : List ℕ) (dump : Dump) (questions : List ReadQuestion) → WellFormed bytes dump → AreQuestions file questions → EachQuestion (ExplainsQuestion program_lines dump.entries) questions
+  pub asked : (bytes file : List ℕ) (dump : Dump) (questions : List ReadQuestion) → WellFormed bytes dump → AreQuestions file questions → EachQuestion (AsksQuestion sql_lines dump.entries) questions
   pub stored : (bytes : List ℕ) (dump : Dump) → WellFormed bytes dump → AreStored dump.entries dump.tables
   pub reloaded : (number : ℕ) (titles : List (List ℕ)) (rows : List (List Cell)) → number < 2 ^ 63 → AreReloadable (codes "line" ∷ titles) rows
       → LoadsAgain number (codes "line" ∷ titles) rows (csv_text (titled_records number (codes "line" ∷ titles) rows))

@@ -45,16 +45,16 @@ use Rattle.gp_ask.specs.declared.format.Format.{Format}
 use Rattle.gp_ask.specs.declared.format.Format.TheVariants.{Text, Named, Sql}
 use Rattle.gp_ask.specs.Compared.{AnswersAsMade, compares_histories}
 use Rattle.gp_ask.specs.Deltas.{IsDifference, delta}
-use Rattle.gp_ask.specs.Explained.{ExplainsLines}
+use Rattle.gp_ask.specs.Explained.{ExplainsQuestion}
 use Rattle.gp_ask.specs.Formats.{text_in}
 use Rattle.gp_ask.specs.Hypothetical.{remaking_refusal, replayed_dump}
 use Rattle.gp_ask.specs.Intervals.{has_version, intervals}
 use Rattle.gp_ask.specs.Isolated.{IsIsolated, LosesToFirst}
-use Rattle.gp_ask.specs.Questions.{AreQuestions, ReadQuestion, is_refused}
+use Rattle.gp_ask.specs.Questions.{AreQuestions, EachQuestion, ReadQuestion, is_refused}
 use Rattle.gp_ask.specs.SerialAnswers.{serial_answer}
 use Rattle.gp_ask.specs.SerialHistories.{IsTrue, RunsInCycle, RunsSerially}
 use Rattle.gp_ask.specs.declared.answered.Heading.TheVariants.{Cycle, Serial}
-use Rattle.gp_ask.specs.SqlAnswers.{AreStored, AsksLines}
+use Rattle.gp_ask.specs.SqlAnswers.{AreStored, AsksQuestion}
 use Rattle.gp_whatif.specs.Changed.{changed_log}
 use Rattle.gprom_cli.specs.declared.generated.TheConstants.{MAX_ROUNDS}
 use Rattle.gprom_cli.specs.declared.load.TheConstants.{MAX_SHEET_LENGTH}
@@ -89,11 +89,11 @@ pub record Promises (call : Call) : Type 0 where
       → answer_to (shown format) (dump_of (last_state unannotated lines)) question ≡ held_to (shown format) (last_state monomials lines) question
   -- Every query that the questions of a file ask to explain, of whatever well-formed dump, has as answer the lines of the text of one program that on every
   -- database of past versions gives the answer of the query over the state that the logged statements lead to.
-  pub explained : (bytes file : List ℕ) (contents : Dump) (lines : List ReadQuestion) → WellFormed bytes contents → AreQuestions file lines → ExplainsLines (shown Text) contents.entries lines
+  pub explained : (bytes file : List ℕ) (contents : Dump) (lines : List ReadQuestion) → WellFormed bytes contents → AreQuestions file lines → EachQuestion (ExplainsQuestion (shown Text) contents.entries) lines
   -- Every query that `sql` writes for a question of a file, of whatever well-formed dump, is a query of SQL that has types over the dump's tables, and over any tables of row
   -- versions gives the rows of the question's query over the state that the logged statements lead to from the versions that they hold. The tables that it writes before are such
   -- tables.
-  pub asked : (bytes file : List ℕ) (contents : Dump) (lines : List ReadQuestion) → WellFormed bytes contents → AreQuestions file lines → AsksLines (shown Sql) contents.entries lines
+  pub asked : (bytes file : List ℕ) (contents : Dump) (lines : List ReadQuestion) → WellFormed bytes contents → AreQuestions file lines → EachQuestion (AsksQuestion (shown Sql) contents.entries) lines
   pub stored : (bytes : List ℕ) (contents : Dump) → WellFormed bytes contents → AreStored contents.entries contents.tables
   -- What `export` writes with names for rows under such titles is a sheet that loads again, with the number of the question in front of each row.
   pub reloaded : (number : ℕ) (titles : List (List ℕ)) (rows : List (List Cell)) → number < 2 ^ 63 → AreReloadable (codes "line" ∷ titles) rows
