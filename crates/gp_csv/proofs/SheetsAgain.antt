@@ -7,7 +7,7 @@ use Rattle.gp_base.specs.declared.cell.Cell.{Cell}
 use Rattle.gp_base.specs.declared.cell.Cell.TheVariants as cell
 use Rattle.gp_base.specs.declared.table.Kind.TheVariants as kind
 use Rattle.gp_csv.specs.Answers.{csv_text, record_of, titled_records}
-use Rattle.gp_csv.specs.Titled.{column_names, is_cell_of}
+use Rattle.gp_csv.specs.SheetForms.{column_names, is_cell_of}
 use Rattle.gp_csv.specs.Sheets.{columns_from, sheet_of, sheet_of_records}
 use Rattle.gp_csv.specs.declared.sheet.Sheet.{Sheet}
 use Rattle.gp_csv.proofs.ReadBack.{titled-back}

@@ -9,7 +9,7 @@ use Rattle.gp_base.specs.declared.cell.Cell.{Cell}
 use Rattle.gp_base.specs.declared.table.Column.{Column}
 use Rattle.gp_grammar.specs.declared.limits.TheConstants.{MAX_COLUMNS, MAX_LINE_LENGTH, MAX_VALUES}
 use Rattle.gp_grammar.specs.Syntax.{insert}
-pub use Rattle.gp_csv.specs.Titled.{column_names, is_cell_of}
+pub use Rattle.gp_csv.specs.Titled.{is_cell_of}
 use Rattle.gp_csv.specs.Scripts.{Row, session_line}
 use Rattle.gp_csv.specs.declared.sheet.Sheet.{Sheet}
 use Rattle.gp_csv.specs.declared.error.CsvStop.{CsvStop}
@@ -28,6 +28,9 @@ rows_in batches = flat_map (λ (batch : List Row). batch) batches
 -- the line of an INSERT of these rows would have too many rows, or be too long
 abbrev pub PassesLimit : List ℕ → List Row → Type 0
 PassesLimit name batch = (MAX_VALUES < length batch) ⊎ (MAX_LINE_LENGTH < length (session_line (insert name batch)))
+
+abbrev pub column_names : List Column → List (List ℕ)
+column_names columns = map (λ (column : Column). column.name) columns
 
 -- a cell for each column
 abbrev pub is_row_of : List Column → List Cell → Bool

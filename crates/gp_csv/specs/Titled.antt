@@ -23,9 +23,6 @@ is_cell_of kind.Int (cell.Int number) = fits_number number
 is_cell_of kind.Text (cell.Text text) = is_user_text text
 is_cell_of column other = false
 
-abbrev pub column_names : List Column → List (List ℕ)
-column_names columns = map (λ (column : Column). column.name) columns
-
 -- the cells of a column; its places count from 0
 abbrev pub column_at : ℕ → List (List Cell) → List Cell
 column_at place rows = map (λ (row : List Cell). get_or row place cell.Null) rows
@@ -48,5 +45,5 @@ pub record AreReloadable (titles : List (List ℕ)) (rows : List (List Cell)) : 
 pub record IsReadAgain (number : ℕ) (titles : List (List ℕ)) (rows : List (List Cell)) (bytes : List ℕ) : Type 0 where
   pub sheet : Sheet
   pub is : sheet_of bytes ≡ Ok sheet
-  pub columns : column_names sheet.cols ≡ titles
+  pub columns : map (λ (column : Column). column.name) sheet.cols ≡ titles
   pub same : sheet.rows ≡ map (λ (row : List Cell). cell.Int (pos number) ∷ row) rows

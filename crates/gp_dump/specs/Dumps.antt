@@ -79,9 +79,8 @@ is_of_kind kind cell = false
 -- a row that the columns of a table can hold
 abbrev pub fits_columns : List Column → List Cell → Bool
 fits_columns [] [] = true
-fits_columns [] (cell ∷ cells) = false
-fits_columns (col ∷ cols) [] = false
 fits_columns (col ∷ cols) (cell ∷ cells) = is_of_kind col.kind cell && fits_columns cols cells
+fits_columns _ _ = false
 
 -- a span that has ended, at this version or before
 abbrev pub has_ended_by : Option ℕ → ℕ → Bool
