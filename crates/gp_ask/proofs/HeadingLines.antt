@@ -7,7 +7,8 @@ use Rattle.gp_base.specs.declared.table.Table.{Table}
 use Rattle.gp_base.specs.Numbered.{newline}
 use Rattle.gp_dump.specs.Dumps.{Dump}
 use Rattle.gp_log.specs.LogFacts.{tables_in}
-use Rattle.gp_sql.specs.TableTexts.{create_begin, create_middle, create_text, column_definition, insert_text, row_word, system_columns, table_text, version_text}
+use Rattle.gp_sql.specs.PlacedTables.{table_text}
+use Rattle.gp_sql.specs.TableTexts.{create_begin, create_middle, create_text, column_definition, insert_text, row_word, system_columns, version_text}
 use Rattle.gp_versions.specs.declared.span.Span.{Span}
 use Rattle.gp_ask.specs.declared.format.Format.{Format}
 use Rattle.gp_ask.specs.declared.format.Format.TheVariants.{Text, Csv, Named, Sql}

@@ -1,7 +1,7 @@
 -- Names, and numbers with a sign, are read again in front of a rest.
 use Rattle.gp_sql.proofs.Prelude.{◌≡◌, ◌≢◌, ℕ, ℤ, pos, zero, suc, ◌-◌, ◌^◌, ◌<◌, ◌≤◌, Bool, true, false, eqb, List, [], ◌∷◌, ◌++◌, length, map, get_or, take, drop, Some, None, option_and_then, refl, sym, ap, ◌∙◌, append-nil, length-append, arith, codes, ◌==◌, slice_get, decimal, signed_decimal, AllByRecursion, list_all, bytes_eq, and_parts, and_from, leb-true, ltb-true, false≢true, list_all-append, Table, table_names, fits_number, is_digit, is_name, behind, name_at, most_u64, number_at, EndsName, concat-onto, Ends}
 use Rattle.std.specs.Option.{option_map_or}
-use Rattle.std.proofs.Common.{negsuc, ◌||◌, inl, inr, Option, ne_eqb}
+use Rattle.std.proofs.Common.{negsuc, ◌&&◌, ◌||◌, inl, inr, Option, ne_eqb}
 use Rattle.std.proofs.lemmas.Slice.Eq.{bytes_eq-Decides}
 use Rattle.std.proofs.lemmas.Bool.{cases_Bool, eqb-true, or_left}
 use Rattle.std.proofs.lemmas.Fmt.{digits_decimal, digits_value-decimal, decimal_nonempty}
@@ -14,11 +14,14 @@ use Rattle.gp_base.specs.Names.{is_name_byte, is_lower_letter}
 use Rattle.gp_plantext.proofs.CellAgain.{cell-again}
 use Rattle.gp_plantext.proofs.NumberAgain.{decimal-first, number-again}
 use Rattle.gp_plantext.proofs.Rests.{no_digits, no_word}
-use Rattle.gp_sql.specs.Spelled.{AreDifferent, HaveOwnNames, source_is_spelled, column_is_spelled}
+use Rattle.gp_sql.specs.Spelled.{AreDifferent, HaveOwnNames, source_is_spelled, column_is_spelled, query_is_spelled}
 use Rattle.gp_sql.specs.Spelling.{column_name, column_text, source_text}
 use Rattle.gp_sql.specs.Sql as s
-use Rattle.gp_sql.specs.Sql.{Column, Source}
+use Rattle.gp_sql.specs.Sql.{Column, NamedQuery, Source}
 use Rattle.gp_sql.proofs.Reading.{place_in, column_names, last_byte, source_of, source_at, as_number, signed_at, begins_number, column_at}
+
+abbrev pub named_is_spelled : List Table → NamedQuery → Bool
+named_is_spelled tables named = source_is_spelled tables named.name && query_is_spelled tables named.query
 
 -- ---- bytes of names
 

@@ -12,7 +12,7 @@ use Rattle.gp_sql.specs.declared.cell_type.CellType.{CellType}
 use Rattle.gp_sql.specs.declared.cell_type.CellType.TheVariants.{Null, Int, Text, Id, Mark}
 use Rattle.gp_sql.specs.Sql as s
 use Rattle.gp_sql.specs.Sql.{Column, Source}
-use Rattle.gp_sql.specs.SqlCells.{sql_cell, sql_row, sql_rows}
+use Rattle.gp_sql.specs.SqlCells.{sql_cell, sql_rows}
 use Rattle.gp_sql.specs.Meaning.{Relation, Scope, cell_named, query_relation, test_truth}
 use Rattle.gp_sql.specs.NamedQueries as n
 use Rattle.gp_sql.specs.NamedQueries.{is_missing, published_query, written_query}
@@ -21,7 +21,7 @@ use Rattle.gp_sql.specs.Types.{are_published, is_id, is_mark, published_types, c
 use Rattle.gp_sql.proofs.ColumnLemmas.{alone, numbered_names, relation_with}
 use Rattle.gp_sql.proofs.QueryLemmas.{both-width, width}
 use Rattle.gp_sql.proofs.SourceLemmas.{all-alone, any_agree, block-alone, has-any, kept_agree, rows_over}
-use Rattle.gp_sql.proofs.TermLemmas.{column-value}
+use Rattle.gp_sql.proofs.TermLemmas.{column-value, sql_row}
 use Rattle.gp_sql.proofs.TruthLemmas.{exact-id, holds-not, marked, same-id, turned}
 use Rattle.gp_sql.proofs.TypeLemmas.{HasType, column-has, each_filter, each_weaker, id-has}
 

@@ -9,7 +9,7 @@ use Rattle.gp_sql.specs.declared.cell_type.CellType.{CellType}
 use Rattle.gp_sql.specs.declared.cell_type.CellType.TheVariants.{Id, Mark}
 use Rattle.gp_sql.specs.Sql as s
 use Rattle.gp_sql.specs.Sql.{Alias, Column, Source, Terms}
-use Rattle.gp_sql.specs.SqlCells.{sql_cell, sql_row, sql_rows}
+use Rattle.gp_sql.specs.SqlCells.{sql_cell, sql_rows}
 use Rattle.gp_sql.specs.Meaning.{Relation, Scope, cell_named, term_values, test_truth, names_from, query_relation}
 use Rattle.gp_sql.specs.NamedQueries.{from, all_of, columns_of, crossed, given_query, holding, known_types, scanned, stored_terms}
 use Rattle.gp_sql.specs.Translation.{cells_terms, cond_test, exprs_terms, first_due}
@@ -18,7 +18,7 @@ use Rattle.gp_sql.specs.Types.{cell_type, common, common_types, cond_is_typed, b
 use Rattle.gp_sql.specs.VersionTables.{SpanFits, SpansFit, stored_names, version_row}
 use Rattle.gp_sql.proofs.ColumnLemmas.{alone, are-long, columns-value, named-cell, numbered_names, relation_with, stored-cell, stored-value}
 use Rattle.gp_sql.proofs.SourceLemmas.{all-alone, all-rows, block-alone, block-two, flat_agree, kept_agree, made-alone, rows_of_two, rows_over, two}
-use Rattle.gp_sql.proofs.TermLemmas.{are-wide, cell-value, cond-value, expr-value, same-int, same-text}
+use Rattle.gp_sql.proofs.TermLemmas.{are-wide, cell-value, cond-value, expr-value, same-int, same-text, sql_row}
 use Rattle.gp_sql.proofs.TruthLemmas.{version-holds}
 use Rattle.gp_sql.proofs.TypeLemmas.{HaveTypes, each_filter, each_weaker}
 

@@ -9,7 +9,8 @@ use Rattle.gp_plantext.proofs.Rests.{length-concat}
 use Rattle.gp_sql.specs.declared.cell_type.CellType.{CellType}
 use Rattle.gp_sql.specs.declared.cell_type.CellType.TheVariants.{Id, Mark}
 use Rattle.gp_sql.specs.NamedQueries.{Operand, Translated, TranslatedSteps, from, all_of, stored_terms, holding, scanned, columns_of, given_block, given_query, is_marked, is_missing, written_query, published_query, is_projection, operand, known_types, types_of, translated, translated_steps, program_query}
-use Rattle.gp_sql.specs.Spelled.{table_of, source_is_spelled, terms_are_spelled, test_is_spelled, items_are_spelled, block_is_spelled, query_is_spelled, named_is_spelled, is_spelled}
+use Rattle.gp_sql.proofs.NamesAgain.{named_is_spelled}
+use Rattle.gp_sql.specs.Spelled.{table_of, source_is_spelled, terms_are_spelled, test_is_spelled, items_are_spelled, block_is_spelled, query_is_spelled, is_spelled}
 use Rattle.gp_sql.specs.Spelling.{column_name, term_text, named_text, others_named, from_text, where_text, block_text, query_text, source_text, materialized_text, expression_text, other_expression, expressions_text, with_text}
 use Rattle.gp_sql.specs.Sql as s
 use Rattle.gp_sql.specs.Sql.{Alias, Source, FromItem, Terms, Where, Block, Query, NamedQuery, With}

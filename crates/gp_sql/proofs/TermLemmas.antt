@@ -10,7 +10,7 @@ use Rattle.gp_sql.specs.declared.cell_type.CellType.{CellType}
 use Rattle.gp_sql.specs.declared.cell_type.CellType.TheVariants.{Null, Int, Text, Id, Mark}
 use Rattle.gp_sql.specs.Sql as s
 use Rattle.gp_sql.specs.Sql.{Source, Term, Test}
-use Rattle.gp_sql.specs.SqlCells.{sql_cell, sql_row}
+use Rattle.gp_sql.specs.SqlCells.{sql_cell}
 use Rattle.gp_sql.specs.Meaning.{Relation, Scope, joined_cells, cell_named, term_value, joined_value, test_truth}
 use Rattle.gp_sql.specs.Translation.{type_or_null, unless_null, cell_term, literal, bare, in_chain, id_prefix, expr_term, other_parts, cond_test}
 use Rattle.gp_sql.specs.CellTypes.{IsOf, AreOf}
@@ -20,6 +20,9 @@ use Rattle.gp_sql.proofs.IdentityTexts.{concat-onto}
 use Rattle.gp_sql.proofs.TypeLemmas.{HasType, expr-has, numbers-of, negated-of, of-null, column-has}
 
 -- ---- cells
+
+abbrev pub sql_row : List Cell → List Cell
+sql_row row = map sql_cell row
 
 sql-get : (row : List Cell) (n : ℕ) → get_or (map sql_cell row) n cell.Null ≡ sql_cell (get_or row n cell.Null)
 sql-get [] n = refl

@@ -14,7 +14,7 @@ use Rattle.gp_sql.specs.Sql as s
 use Rattle.gp_sql.specs.Sql.{Alias, Items, Source, Test, Where}
 use Rattle.gp_sql.specs.Translation.{cond_test, exprs_terms}
 use Rattle.gp_sql.specs.TypedQueries as q
-use Rattle.gp_sql.specs.TypedQueries.{Entry, Scope, Sources, TypedColumn, ValueType, bigint, column_before, from_scope, integer, item_before, items_columns, named_columns, of_both, only, query_columns, stored_columns, term_type, test_is_typed, types_named, union_columns, varchar, version_columns, where_is_typed}
+use Rattle.gp_sql.specs.TypedQueries.{Entry, Scope, Sources, TypedColumn, ValueType, bigint, column_before, from_scope, integer, item_before, items_columns, named_columns, of_both, only, query_columns, stored_columns, term_type, test_is_typed, types_named, united, varchar, version_columns, where_is_typed}
 use Rattle.gp_sql.specs.Types.{are_published, are_whole, both_types, common_types, cond_is_typed, exprs_types, is_id, is_mark, is_of_null, product_types, projected_types, published_types, row_types, rows_types, scan_types, selected_types, type_at}
 use Rattle.gp_sql.proofs.TypedColumns.{AllSuit, Columns, Meets, as-long, cells-typed, column-named, columns-typed, entry, exprs-typed, found-at, has-columns, kinds, meets-both, meets-whole, no-begin, no-end, no-identity, numbered_columns, stored-named, stored-typed, suit-join, united-columns}
 use Rattle.gp_sql.proofs.TypedTerms.{cond-typed, covers, suits}
@@ -210,7 +210,7 @@ module _ (sources : Sources) where
       record {
         values = both.values;
         is =
-            (λ i. union_columns (all-typed s.no_alias s.everywhere left (numbered_columns 1 has.values) has.is refl i) (all-typed s.no_alias s.everywhere right (numbered_columns 1 so.values) so.is refl i))
+            (λ i. of_both united (all-typed s.no_alias s.everywhere left (numbered_columns 1 has.values) has.is refl i) (all-typed s.no_alias s.everywhere right (numbered_columns 1 so.values) so.is refl i))
             ∙ both.is;
         all = both.all;
       }
@@ -223,7 +223,7 @@ module _ (sources : Sources) where
       let first = cells-typed sources [] row due (known_types (row_types row)) 1 parts.0 apart.0 in
       let others = given-typed next rows due (known_types (rows_types next rows)) parts.1 apart.1 in
       let both = united-columns 1 due first.values others.values first.all others.all in
-      record { values = both.values; is = (λ i. union_columns (first.is i) (others.is i)) ∙ both.is; all = both.all }
+      record { values = both.values; is = (λ i. of_both united (first.is i) (others.is i)) ∙ both.is; all = both.all }
 
   -- ---- SCAN
 
@@ -268,10 +268,10 @@ module _ (sources : Sources) where
       → HasIds at vs → HasIds at ws → HasMarks at ws → query_columns sources [] (written_query at base mine) ≡ Some (id_column at)
   written-typed at base mine vs ws is so ids own marks =
       let name : Option s.Column = Some (s.numbered at) in
-      (λ i. union_columns
+      (λ i. of_both united
       (block-one (s.single (s.column s.no_alias (s.numbered at))) (s.passing (is_marked at)) s.no_alias mine (numbered_columns 1 ws) so (marked-typed at ws marks) i)
       (block-one (s.single (s.column s.x (s.numbered at))) (s.passing (is_missing at mine)) s.x base (numbered_columns 1 vs) is (missing-typed at mine (numbered_columns 1 ws) vs so own ids) i))
-      ∙ (λ i. union_columns (column_before name (own i) (Some [])) (column_before name (ids i) (Some [])))
+      ∙ (λ i. of_both united (column_before name (own i) (Some [])) (column_before name (ids i) (Some [])))
 
   pub publish-typed : (at : ℕ) (due : List CellType) (written mine later : Source) (ws : List ValueType) → sources written ≡ Some (id_column at)
       → (own : Has mine due) → (is : Has later due) → HasIds at is.values → HasMarks at own.values
@@ -282,7 +282,7 @@ module _ (sources : Sources) where
       record {
         values = both.values;
         is =
-            (λ i. union_columns
+            (λ i. of_both united
             (all-typed s.x (s.passing (is_missing at written)) later (numbered_columns 1 is.values) is.is (missing-typed at written (id_column at) is.values there named ids) i)
             (all-typed s.no_alias (s.passing (is_marked at)) mine (numbered_columns 1 own.values) own.is (marked-typed at own.values marks) i))
             ∙ both.is;

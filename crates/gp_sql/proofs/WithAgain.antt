@@ -1,11 +1,11 @@
 -- A text spells one query.
 use Rattle.gp_sql.proofs.Prelude.{◌≡◌, ℕ, suc, ◌+◌, ◌<◌, ◌≤◌, Bool, true, false, ltb, List, [], ◌∷◌, ◌++◌, length, Some, None, option_and_then, refl, sym, ap, ◌∙◌, append-nil, arith, codes, ◌&&◌, concat, flat_map, list_all, option_map, and_parts, and_from, ltb-true, lt-ltb, Table, newline, with_rest, behind, concat-onto, then_is}
-use Rattle.gp_sql.specs.Spelled.{HaveOwnNames, source_is_spelled, query_is_spelled, named_is_spelled, is_spelled}
+use Rattle.gp_sql.specs.Spelled.{HaveOwnNames, source_is_spelled, query_is_spelled, is_spelled}
 use Rattle.gp_sql.specs.Spelling.{materialized_text, source_text, query_text, expression_text, other_expression, expressions_text, with_text}
 use Rattle.gp_sql.specs.Sql as s
 use Rattle.gp_sql.specs.Sql.{Source, Query, NamedQuery, With}
 use Rattle.gp_sql.proofs.Reading.{many_at, expression_on, expression_at, expressions_at, last_at, with_at}
-use Rattle.gp_sql.proofs.NamesAgain.{source-again}
+use Rattle.gp_sql.proofs.NamesAgain.{named_is_spelled, source-again}
 use Rattle.gp_sql.proofs.PartsAgain.{query_size}
 use Rattle.gp_sql.proofs.TreesAgain.{ends-bracket, ends-last, many-again, query-again}
 

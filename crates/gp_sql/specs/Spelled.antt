@@ -101,11 +101,8 @@ module _ (tables : List Table) where
     query_is_spelled (s.block block) = block_is_spelled block
     query_is_spelled (s.union_all block query) = block_is_spelled block && query_is_spelled query
 
-  abbrev pub named_is_spelled : NamedQuery → Bool
-  named_is_spelled named = source_is_spelled named.name && query_is_spelled named.query
-
   abbrev pub is_spelled : With → Bool
-  is_spelled query = list_all named_is_spelled query.queries && query_is_spelled query.last
+  is_spelled query = list_all (λ (named : NamedQuery). source_is_spelled named.name && query_is_spelled named.query) query.queries && query_is_spelled query.last
 
 -- the text of a query that is spelled
 pub record SpellsQuery (tables : List Table) (query : With) (text : List ℕ) : Type 0 where

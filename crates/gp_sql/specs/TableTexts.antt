@@ -34,34 +34,21 @@ create_text table = concat (create_begin ∷ table.name ∷ create_middle ∷ sy
 abbrev pub most_rows : ℕ
 most_rows = 100
 
-unfoldable pub insert_begin : List ℕ
-insert_begin = codes "INSERT INTO "
-
-unfoldable pub insert_end : List ℕ
-insert_end = codes "_versions VALUES "
-
 abbrev pub insert_word : Table → List ℕ
-insert_word table = concat (insert_begin ∷ table.name ∷ insert_end ∷ [])
+insert_word table = concat (codes "INSERT INTO " ∷ table.name ∷ codes "_versions VALUES " ∷ [])
 
 -- what stands before the row behind so many others
 abbrev pub row_word : Table → ℕ → List ℕ
 row_word table n = if n == 0 then insert_word table else (if n % most_rows == 0 then concat (codes ";" ∷ newline ∷ insert_word table ∷ []) else codes ", ")
-
-abbrev pub end_word : ℕ → List ℕ
-end_word n = if n == 0 then [] else codes ";" ++ newline
 
 abbrev pub version_text : Span → List ℕ
 version_text span = concat (codes "(" ∷ row_text (version_row span) ∷ codes ")" ∷ [])
 
 -- rows behind so many others
 abbrev pub insert_text : Table → ℕ → List Span → List ℕ
-insert_text table n [] = end_word n
+insert_text table n [] = if n == 0 then [] else codes ";" ++ newline
 insert_text table n (span ∷ spans) = concat (row_word table n ∷ version_text span ∷ insert_text table (suc n) spans ∷ [])
-
--- a table with its row versions
-abbrev pub table_text : Table → List Span → List ℕ
-table_text table spans = create_text table ++ insert_text table 0 spans
 
 -- the tables of a catalogue, each with its row versions
 abbrev pub tables_text : List Table → List (List Span) → List ℕ
-tables_text tables lists = flat_map (λ (pair : Table × List Span). table_text pair.0 pair.1) (zip tables lists)
+tables_text tables lists = flat_map (λ (pair : Table × List Span). create_text pair.0 ++ insert_text pair.0 0 pair.1) (zip tables lists)

@@ -56,8 +56,8 @@ arithmetic bigint integer = Some bigint
 arithmetic _ _ = None
 
 -- none where one has none
-abbrev pub of_both : (ValueType → ValueType → Option ValueType) → Option ValueType → Option ValueType → Option ValueType
-of_both type a b = option_and_then (λ x. option_and_then (type x) b) a
+abbrev pub of_both : {A : Type 0} → (A → A → Option A) → Option A → Option A → Option A
+of_both common a b = option_and_then (λ x. option_and_then (common x) b) a
 
 abbrev pub is_text : Option ValueType → Bool
 is_text (Some varchar) = true
@@ -86,9 +86,6 @@ abbrev pub united : List TypedColumn → List TypedColumn → Option (List Typed
 united [] [] = Some []
 united (a ∷ columns) (b ∷ others) = column_before a.name (common a.type b.type) (united columns others)
 united _ _ = None
-
-abbrev pub union_columns : Option (List TypedColumn) → Option (List TypedColumn) → Option (List TypedColumn)
-union_columns columns others = option_and_then (λ own. option_and_then (united own) others) columns
 
 -- ---- FROM
 
@@ -154,7 +151,7 @@ module _ (sources : Sources) where
 
     pub query_columns : Scope → Query → Option (List TypedColumn)
     query_columns scope (s.block block) = block_columns scope block
-    query_columns scope (s.union_all block query) = union_columns (block_columns scope block) (query_columns scope query)
+    query_columns scope (s.union_all block query) = of_both united (block_columns scope block) (query_columns scope query)
 
 -- ---- WITH
 

@@ -1,6 +1,7 @@
 -- Part of the statement: row versions as rows of SQL.
 use Rattle.std.specs.Prelude.{◌≡◌, ℕ, zero, suc, true, List, [], ◌∷◌, map, pos, slice_get, Option, Some, None}
 use Rattle.std.specs.List.{AllByRecursion}
+use Rattle.std.specs.Option.{option_map_or}
 use Rattle.gp_base.specs.declared.cell.Cell.{Cell}
 use Rattle.gp_base.specs.declared.cell.Cell.TheVariants as cell
 use Rattle.gp_base.specs.declared.table.Table.{Table}
@@ -14,8 +15,7 @@ use Rattle.gp_sql.specs.CellTypes.{AreOf, column_types, numbers_fit}
 
 -- the version at which a row ends, or NULL
 abbrev pub end_cell : Option ℕ → Cell
-end_cell None = cell.Null
-end_cell (Some to) = cell.Int (pos to)
+end_cell to = option_map_or (λ (n : ℕ). cell.Int (pos n)) to cell.Null
 
 -- the text of the identity, the versions at which the row begins and ends, and the row
 abbrev pub version_row : Span → List Cell

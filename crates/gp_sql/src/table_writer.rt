@@ -5,7 +5,7 @@ ghost use Rattle.std.specs.List.{concat, flat_map};
 ghost use Rattle.gp_base.specs.Texts.{cell_text};
 ghost use Rattle.gp_versions.specs.Spans.{Versions};
 ghost use Rattle.gp_sql.specs.TableTexts as t;
-ghost use Rattle.gp_sql.specs.PlacedTables.{place_text, span_lists};
+ghost use Rattle.gp_sql.specs.PlacedTables.{place_text, span_lists, table_text};
 ghost use Rattle.gp_sql.specs.VersionTables as v;
 
 use crate::cell_writer::push_identity;
@@ -63,17 +63,15 @@ fn create_middle() -> &'static [u8]
 }
 
 /// What an INSERT begins with.
-#[tactic(auto, unfolding(crate::specs::TableTexts::insert_begin))]
 fn insert_begin() -> &'static [u8]
-    ensures { result.now ≡ t.insert_begin }
+    ensures { result.now ≡ codes "INSERT INTO " }
 {
     b"INSERT INTO "
 }
 
 /// What follows the name there.
-#[tactic(auto, unfolding(crate::specs::TableTexts::insert_end))]
 fn insert_end() -> &'static [u8]
-    ensures { result.now ≡ t.insert_end }
+    ensures { result.now ≡ codes "_versions VALUES " }
 {
     b"_versions VALUES "
 }
@@ -179,7 +177,7 @@ fn write_table(
     out: &mut Vec<u8>,
 ) -> Result<(), NoMemory>
     ensures { OnOk result
-        (out.new.items ≡ out.old.items ++ t.table_text table.now spans.now) }
+        (out.new.items ≡ out.old.items ++ table_text table.now spans.now) }
 {
     push_create(table, out)?;
     push_versions(alloc, table, spans, out)

@@ -2,7 +2,7 @@ use Rattle.std.proofs.Common.{sym}
 use Rattle.gp_base.proofs.Bags.{through, mapped, same_from}
 use Rattle.gp_base.proofs.Permutations.{permuted, unpermuted}
 use Rattle.gp_algebra.proofs.PlainBags.{program_meaning_same}
-use Rattle.gp_sql.specs.SqlCells.{sql_row}
+use Rattle.gp_sql.proofs.TermLemmas.{sql_row}
 use Rattle.gp_sql.proofs.NamedLemmas.{program-value}
 use Rattle.gp_sql.proofs.laws.queries_give_the_rows_of_programs.Goals as goal
 
