@@ -32,9 +32,8 @@ abbrev mutual
 
   pub same_sources : Sources → Sources → Bool
   same_sources no_sources no_sources = true
-  same_sources no_sources (source id ids) = false
-  same_sources (source id ids) no_sources = false
   same_sources (source id ids) (source other others) = same_identity id other && same_sources ids others
+  same_sources _ _ = false
 
 abbrev mutual
   -- by transaction, statement and number, then by the sources

@@ -13,39 +13,19 @@ use Rattle.gp_base.specs.Tokens.{monomial_cmp}
 -- by kind, in the order NULL, numbers, texts, identities, marks, monomials; then by value
 abbrev pub cell_cmp : Cell → Cell → Ordering
 cell_cmp Null Null = Equal
-cell_cmp Null (Int m) = Less
-cell_cmp Null (Text t) = Less
-cell_cmp Null (Id b) = Less
-cell_cmp Null (Mark y) = Less
-cell_cmp Null (Mono q) = Less
-cell_cmp (Int n) Null = Greater
+cell_cmp Null other = Less
+cell_cmp cell Null = Greater
 cell_cmp (Int n) (Int m) = int_cmp n m
-cell_cmp (Int n) (Text t) = Less
-cell_cmp (Int n) (Id b) = Less
-cell_cmp (Int n) (Mark y) = Less
-cell_cmp (Int n) (Mono q) = Less
-cell_cmp (Text s) Null = Greater
-cell_cmp (Text s) (Int m) = Greater
+cell_cmp (Int n) other = Less
+cell_cmp cell (Int m) = Greater
 cell_cmp (Text s) (Text t) = slice_cmp nat_cmp s t
-cell_cmp (Text s) (Id b) = Less
-cell_cmp (Text s) (Mark y) = Less
-cell_cmp (Text s) (Mono q) = Less
-cell_cmp (Id a) Null = Greater
-cell_cmp (Id a) (Int m) = Greater
-cell_cmp (Id a) (Text t) = Greater
+cell_cmp (Text s) other = Less
+cell_cmp cell (Text t) = Greater
 cell_cmp (Id a) (Id b) = identity_cmp a b
-cell_cmp (Id a) (Mark y) = Less
-cell_cmp (Id a) (Mono q) = Less
-cell_cmp (Mark x) Null = Greater
-cell_cmp (Mark x) (Int m) = Greater
-cell_cmp (Mark x) (Text t) = Greater
-cell_cmp (Mark x) (Id b) = Greater
+cell_cmp (Id a) other = Less
+cell_cmp cell (Id b) = Greater
 cell_cmp (Mark x) (Mark y) = bool_cmp x y
 cell_cmp (Mark x) (Mono q) = Less
-cell_cmp (Mono p) Null = Greater
-cell_cmp (Mono p) (Int m) = Greater
-cell_cmp (Mono p) (Text t) = Greater
-cell_cmp (Mono p) (Id b) = Greater
 cell_cmp (Mono p) (Mark y) = Greater
 cell_cmp (Mono p) (Mono q) = monomial_cmp p q
 

@@ -15,12 +15,10 @@ use Rattle.gp_base.specs.declared.token.Token.TheVariants.{Inserted, Queried, Up
 -- by kind, in this order, then by transaction, statement and row
 abbrev pub token_cmp : Token → Token → Ordering
 token_cmp (Inserted t k n) (Inserted u l m) = ordering_then (nat_cmp t u) (ordering_then (nat_cmp k l) (nat_cmp n m))
-token_cmp (Inserted t k n) (Queried u l) = Less
-token_cmp (Inserted t k n) (Updated u l) = Less
-token_cmp (Queried t k) (Inserted u l m) = Greater
+token_cmp (Inserted t k n) other = Less
+token_cmp token (Inserted u l m) = Greater
 token_cmp (Queried t k) (Queried u l) = ordering_then (nat_cmp t u) (nat_cmp k l)
 token_cmp (Queried t k) (Updated u l) = Less
-token_cmp (Updated t k) (Inserted u l m) = Greater
 token_cmp (Updated t k) (Queried u l) = Greater
 token_cmp (Updated t k) (Updated u l) = ordering_then (nat_cmp t u) (nat_cmp k l)
 
