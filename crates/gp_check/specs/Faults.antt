@@ -1,7 +1,7 @@
 -- Part of the statement: the faults of a statement against the tables of a catalogue, phase by phase, and the first of them.
 use Rattle.std.specs.Prelude.{ℕ, ◌+◌, ◌==◌, Bool, true, false, ◌&&◌, List, [], ◌∷◌, ◌++◌, length, map, Option, Some, None, is_some, if◌then◌else◌}
 use Rattle.std.specs.List.{flat_map, list_all, list_any}
-use Rattle.std.specs.Option.{option_map, option_or}
+use Rattle.std.specs.Option.{option_and_then, option_map, option_map_or, option_or}
 use Rattle.std.specs.Str.{bytes_eq}
 use Rattle.gp_base.specs.declared.cell.Cell.{Cell}
 use Rattle.gp_base.specs.declared.refusal.Refusal.{Refusal}
@@ -75,9 +75,6 @@ abbrev pub column_fault : Scope → ColumnName → Option Refusal
 column_fault scope name = resolution_fault name (resolution scope name)
 
 abbrev pub term_fault : Scope → Term → Option Refusal
-term_fault scope y.null = None
-term_fault scope (y.int n) = None
-term_fault scope (y.text bytes) = None
 term_fault scope (y.col item name) = column_fault scope (record { item = item; col = name })
 term_fault scope (y.binary o x z) = option_or (term_fault scope x) (term_fault scope z)
 term_fault scope (y.neg x) = term_fault scope x
@@ -85,10 +82,10 @@ term_fault scope (y.not x) = term_fault scope x
 term_fault scope (y.is_null x holds) = term_fault scope x
 term_fault scope (y.is_true x holds) = term_fault scope x
 term_fault scope (y.case x z u) = option_or (term_fault scope x) (option_or (term_fault scope z) (term_fault scope u))
+term_fault scope _ = None
 
 abbrev pub where_fault : Scope → Option Term → Option Refusal
-where_fault scope None = None
-where_fault scope (Some term) = term_fault scope term
+where_fault scope = option_and_then (term_fault scope)
 
 unfoldable pub block_columns_fault : List Table → Block → Option Refusal
 block_columns_fault tables block =
@@ -169,8 +166,7 @@ abbrev pub are_values : List (Option TermType) → Bool
 are_values = list_all (operand_passes is_value)
 
 abbrev pub where_is_typed : Scope → Option Term → Bool
-where_is_typed scope None = true
-where_is_typed scope (Some term) = is_condition (type_of scope term)
+where_is_typed scope cond = option_map_or (λ term. is_condition (type_of scope term)) cond true
 
 unfoldable pub block_where_is_typed : List Table → Block → Bool
 block_where_is_typed tables block = where_is_typed (scope_of tables block.from) block.cond

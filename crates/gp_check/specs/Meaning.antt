@@ -1,6 +1,6 @@
 -- Part of the statement: the statement that a command without faults means, with tables and columns by number.
-use Rattle.std.specs.Prelude.{ℕ, List, [], map, Option, Some, None, unwrap_or}
-use Rattle.std.specs.Option.{option_map}
+use Rattle.std.specs.Prelude.{ℕ, List, [], map, Option, unwrap_or}
+use Rattle.std.specs.Option.{option_map, option_map_or}
 use Rattle.gp_base.specs.declared.cell.Cell.TheVariants as cell
 use Rattle.gp_base.specs.declared.table.Table.{Table}
 use Rattle.gp_base.specs.Catalogs.{place_of}
@@ -51,8 +51,7 @@ abbrev mutual
 
 -- a missing WHERE is the condition that is always true
 abbrev pub where_of : Scope → Option Term → Cond
-where_of scope None = e.always
-where_of scope (Some term) = cond_of scope term
+where_of scope cond = option_map_or (cond_of scope) cond e.always
 
 abbrev pub exprs_of : Scope → Items → List Expr
 exprs_of scope y.star = columns_behind 0 (scope_width scope)

@@ -59,22 +59,19 @@ known false = False
 -- WHERE, CASE and IS TRUE ask for this
 abbrev pub holds : Ternary → Bool
 holds True = true
-holds False = false
-holds Unknown = false
+holds _ = false
 
 abbrev pub both : Ternary → Ternary → Ternary
 both True b = b
 both False b = False
-both Unknown True = Unknown
 both Unknown False = False
-both Unknown Unknown = Unknown
+both Unknown _ = Unknown
 
 abbrev pub either : Ternary → Ternary → Ternary
 either True b = True
 either False b = b
 either Unknown True = True
-either Unknown False = Unknown
-either Unknown Unknown = Unknown
+either Unknown _ = Unknown
 
 abbrev pub negation : Ternary → Ternary
 negation True = False

@@ -4,13 +4,10 @@ use Rattle.gp_grammar.specs.Syntax.{Term}
 
 module _ {A : Type 0} (leaf : Term → A) (above : A → A) (plus : A → A → A) where
   abbrev pub folded : Term → A
-  folded y.null = leaf y.null
-  folded (y.int n) = leaf (y.int n)
-  folded (y.text bytes) = leaf (y.text bytes)
-  folded (y.col item name) = leaf (y.col item name)
   folded (y.binary o a b) = above (plus (folded a) (folded b))
   folded (y.neg a) = above (folded a)
   folded (y.not a) = above (folded a)
   folded (y.is_null a holds) = above (folded a)
   folded (y.is_true a holds) = above (folded a)
   folded (y.case a b c) = above (plus (plus (folded a) (folded b)) (folded c))
+  folded term = leaf term

@@ -66,10 +66,9 @@ abbrev pub line_shape : ScriptLine → Shape
 line_shape line = command_shape line.command
 
 abbrev pub change_shape : LogChange → Shape
-change_shape (y.drop t k) = shape_of_terms []
-change_shape (y.drop_all t) = shape_of_terms []
 change_shape (y.replace t k command) = command_shape command
 change_shape (y.add t command) = command_shape command
+change_shape _ = shape_of_terms []
 
 -- two parts as one whole; each query, each VALUES and each WHATIF is of its own length
 abbrev pub both : Shape → Shape → Shape

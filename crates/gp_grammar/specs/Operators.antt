@@ -10,14 +10,11 @@ use Rattle.gp_grammar.specs.declared.op.Op.TheVariants as op
 -- the operator of a level that a symbol stands for
 abbrev pub operator_of : Level → Symbol → Option Op
 operator_of l.Disjunction s.Or = Some op.Or
-operator_of l.Disjunction _ = None
 operator_of l.Conjunction s.And = Some op.And
-operator_of l.Conjunction _ = None
 operator_of l.Sum s.Plus = Some op.Add
 operator_of l.Sum s.Minus = Some op.Sub
-operator_of l.Sum _ = None
 operator_of l.Product s.Star = Some op.Mul
-operator_of l.Product _ = None
+operator_of _ _ = None
 
 -- the comparison that a symbol stands for
 abbrev pub comparison_of : Symbol → Option Op

@@ -19,15 +19,13 @@ is_separated _ = true
 abbrev pub has_space : Gap → Lexeme → Bool
 has_space Start lexeme = false
 has_space Joined lexeme = false
-has_space AfterComma lexeme = is_separated lexeme
-has_space Spaced lexeme = is_separated lexeme
+has_space _ lexeme = is_separated lexeme
 
 -- a `-` at the start of a line, after `(` and after `,` is a sign, and elsewhere the operator
 abbrev pub after_minus : Gap → Gap
 after_minus Start = Joined
 after_minus AfterComma = Joined
-after_minus Joined = Spaced
-after_minus Spaced = Spaced
+after_minus _ = Spaced
 
 -- the gap after the lexeme
 abbrev pub next_gap : Gap → Lexeme → Gap
