@@ -11,7 +11,7 @@ use Rattle.gp_algebra.specs.Answers.{values}
 use Rattle.gp_algebra.specs.Plain as p
 use Rattle.gp_algebra.specs.Plain.{Plain, PlainStep, PlainProgram, PlainEnvironment, StepRows, no_steps, with_step, is_same_id, is_marked, is_written, published_onto, meaning, steps_meaning, program_meaning}
 use Rattle.gp_algebra.specs.Stops.{first_stop, stop_at, steps_stop, program_stop}
-use Rattle.gp_algebra.specs.Plain.{is_insert}
+use Rattle.gp_algebra.specs.Stops.{is_insert}
 use Rattle.gp_algebra.specs.Stops as stops
 use Rattle.gp_algebra.specs.Scans.{query_scans, steps_scans, program_scans}
 use Rattle.gp_algebra.proofs.ScanLemmas.{own_scan}

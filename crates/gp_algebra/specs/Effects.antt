@@ -1,6 +1,6 @@
 -- Part of the statement: what a statement does to an annotated database, which rows it writes, and its limits. An inserted row gets a new identity,
 -- an updated one keeps its own; each written row is marked, and its annotation is multiplied by a token of the statement.
-use Rattle.std.specs.Prelude.{ℕ, zero, suc, ◌==◌, nat_lt, not, Bool, true, false, List, [], ◌∷◌, ◌++◌, length, map, filter, Option, Some, None, if◌then◌else◌}
+use Rattle.std.specs.Prelude.{ℕ, zero, suc, ◌==◌, nat_lt, not, Bool, true, false, List, [], ◌∷◌, ◌++◌, length, map, filter, Option, Some, None, unwrap_or, if◌then◌else◌}
 use Rattle.std.specs.List.{list_any}
 use Rattle.gp_base.specs.declared.cell.Cell.{Cell}
 use Rattle.gp_base.specs.declared.token.Token.TheVariants.{Inserted, Queried, Updated}
@@ -22,14 +22,10 @@ abbrev pub set_for : ℕ → List SetExpr → Option Expr
 set_for n [] = None
 set_for n (set ∷ sets) = if set.col == n then Some set.expr else set_for n sets
 
-abbrev pub set_or : Option Expr → Expr → Expr
-set_or None own = own
-set_or (Some e) own = e
-
 -- the expressions of the next columns of the new row, this many: a column that is not set keeps its value
 abbrev pub assigned_from : List SetExpr → ℕ → ℕ → List Expr
 assigned_from sets n zero = []
-assigned_from sets n (suc more) = set_or (set_for (suc n) sets) (col (suc n)) ∷ assigned_from sets (suc n) more
+assigned_from sets n (suc more) = unwrap_or (set_for (suc n) sets) (col (suc n)) ∷ assigned_from sets (suc n) more
 
 -- the new row: every expression reads the old one
 abbrev pub assigned : List SetExpr → List Cell → List Cell

@@ -1,6 +1,6 @@
 -- Part of the statement: the plain algebra, as data, and its meaning. A program is a list of numbered steps and a last query. Rows are lists of cells: the
 -- user columns of a table, then system columns with a row's identity, its mark and, with provenance, its monomial.
-use Rattle.std.specs.Prelude.{ℕ, suc, ◌==◌, ◌&&◌, ◌||◌, not, Bool, false, List, [], ◌∷◌, ◌++◌, map, filter, if◌then◌else◌, true}
+use Rattle.std.specs.Prelude.{ℕ, suc, ◌==◌, ◌&&◌, ◌||◌, not, Bool, false, List, [], ◌∷◌, ◌++◌, map, filter, if◌then◌else◌}
 use Rattle.std.specs.List.{list_any, flat_map}
 use Rattle.gp_base.specs.declared.cell.Cell.{Cell}
 use Rattle.gp_base.specs.declared.cell.Cell.TheVariants as cell
@@ -91,8 +91,3 @@ steps_meaning env (first ∷ others) steps = steps_meaning env others (with_step
 -- the rows of a program
 abbrev pub program_meaning : PlainEnvironment → PlainProgram → List (List Cell)
 program_meaning env program = meaning (steps_meaning env program.steps no_steps) env program.last
-
--- an INSERT step appends to its table
-abbrev pub is_insert : Plain → Bool
-is_insert (union left right) = true
-is_insert _ = false

@@ -1,10 +1,15 @@
 -- Of the contract of `run` (gp_exec) and of the law `programs_respect_bags`: where a plain program stops. Only the rows of its INSERT steps decide, so neither
 -- the order of evaluation nor a rewriting with the same rows changes it.
-use Rattle.std.specs.Prelude.{ℕ, nat_lt, List, [], ◌∷◌, length, Option, Some, None, if◌then◌else◌}
+use Rattle.std.specs.Prelude.{ℕ, nat_lt, Bool, true, false, List, [], ◌∷◌, length, Option, Some, None, if◌then◌else◌}
 use Rattle.std.specs.List.{list_any}
 use Rattle.gp_base.specs.declared.cell.Cell.{Cell}
 use Rattle.gp_expr.specs.LargeValues.{is_large}
-use Rattle.gp_algebra.specs.Plain.{PlainStep, PlainProgram, PlainEnvironment, StepRows, meaning, no_steps, with_step, is_insert}
+use Rattle.gp_algebra.specs.Plain.{Plain, PlainStep, PlainProgram, PlainEnvironment, StepRows, meaning, no_steps, union, with_step}
+
+-- an INSERT step appends to its table
+abbrev pub is_insert : Plain → Bool
+is_insert (union left right) = true
+is_insert _ = false
 
 -- the step with this number leaves too many rows, or has an identity of too many nodes
 pub data Stop : Type 0 where

@@ -2,7 +2,7 @@
 //! 0, and columns from 1.
 
 ghost use Rattle.std.specs.Prelude.{◌≡◌};
-ghost use Rattle.gp_algebra.specs.Plain.{is_insert};
+ghost use Rattle.gp_algebra.specs.Stops.{is_insert};
 ghost use Rattle.gp_algebra.specs.PlainViews.{query_view};
 
 use gp_base::{Row, Sequence};

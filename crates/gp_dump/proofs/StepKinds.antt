@@ -1,5 +1,6 @@
 -- A checked statement keeps rows that fit the columns of their tables and have identities that can be read from their texts.
 use Rattle.gp_dump.proofs.Prelude.{◌≡◌, ◌<◌, ◌≤◌, ℕ, suc, ◌+◌, Bool, true, false, true≢false, ◌&&◌, ◌==◌, nat_lt, List, [], ◌∷◌, ◌++◌, length, map, get_or, ◌⊎◌, inl, inr, ⊎_elim, Option, Some, None, slice_get, if◌then◌else◌, refl, sym, ap, subst, ◌∙◌, arith, append_assoc, length-append, option_or, list_all, list_any, cons_option, AllByRecursion, nat_tests, slice_get_cases, Cell, MAX_NODES, Column, Kind, Table, Annotations, Annotated, Database, is_user_cell, Identity, identity, nodes, command_shape, passed_limit, Bytes, Item, Command, value, values, Place, Scope, columns_of, only_place, place_behind, resolution, scope_behind, scope_of, column_type, kind_type, operands_agree, type_of, all_agree, cells_agree, first_refusal, kind_types, query_tables_fault, table_fault, expr_of, number_of_table, meant_statement, is_valid, items_are_valid, holds_if, known, none_of, each_filter, each_weaker, IsReadable, and_parts, eqb-true, ltb-false, or_parts, each_append, each_map}
+use Rattle.std.specs.Prelude.{unwrap_or}
 use Rattle.std.proofs.Common.{bytes_eq}
 use Rattle.gp_base.specs.declared.refusal.Refusal.TheVariants.{E07, E15}
 use Rattle.gp_base.specs.declared.token.Token.TheVariants.{Updated}
@@ -13,7 +14,7 @@ use Rattle.gp_expr.specs.Expressions as e
 use Rattle.gp_expr.specs.Expressions.{Cond}
 use Rattle.gp_expr.specs.Values.{passes}
 use Rattle.gp_algebra.specs.Answers.{Element, answer, answer_from, choices, chosen, joined}
-use Rattle.gp_algebra.specs.Effects.{assigned, assigned_from, changed, given_from, is_over_nodes, made, set_for, set_or, step, with_rows}
+use Rattle.gp_algebra.specs.Effects.{assigned, assigned_from, changed, given_from, is_over_nodes, made, set_for, step, with_rows}
 use Rattle.gp_algebra.specs.Statements.{SetExpr}
 use Rattle.gp_algebra.specs.Fitting.{is_countable}
 use Rattle.gp_check.specs.Scopes.{target_scope}
@@ -206,10 +207,10 @@ assigned_fits sets row before (col ∷ cols) all f =
     (assigned_fits sets row (suc before) cols
     (each_weaker (FitsSet (suc before) cols row) (FitsSet before (col ∷ cols) row) (λ set s. record { kind = s.kind; seen = seen_more before col cols set.col s.kind s.seen; fits = s.fits }) sets all) f.1)
   where
-    one : (sets : List SetExpr) → AllByRecursion (FitsSet before (col ∷ cols) row) sets → is_of_kind col.kind (value (set_or (set_for (suc before) sets) (e.col (suc before))) row) ≡ true
+    one : (sets : List SetExpr) → AllByRecursion (FitsSet before (col ∷ cols) row) sets → is_of_kind col.kind (value (unwrap_or (set_for (suc before) sets) (e.col (suc before))) row) ≡ true
     one [] all = f.0
     one (set ∷ sets) all =
-        elim (set.col == suc before) as (λ b. (set.col == suc before) ≡ b → is_of_kind col.kind (value (set_or (if b then Some set.expr else set_for (suc before) sets) (e.col (suc before))) row) ≡ true) [
+        elim (set.col == suc before) as (λ b. (set.col == suc before) ≡ b → is_of_kind col.kind (value (unwrap_or (if b then Some set.expr else set_for (suc before) sets) (e.col (suc before))) row) ≡ true) [
           | true ↦ λ is.
               let s : FitsSet before (col ∷ cols) row set = all.0 in
               subst (λ k. is_of_kind k (value set.expr row) ≡ true) (seen_here before col cols set.col s.kind (eqb-true set.col (suc before) is) s.seen) s.fits

@@ -11,7 +11,7 @@ use Rattle.gp_expr.specs.LargeValues.{is_large}
 use Rattle.gp_algebra.specs.Plain.{PlainEnvironment, PlainProgram, PlainStep, StepRows, meaning, no_steps, program_meaning, with_step}
 use Rattle.gp_algebra.specs.Stops as stops
 use Rattle.gp_algebra.specs.Stops.{Stop, first_stop, stop_at, steps_stop}
-use Rattle.gp_algebra.specs.Plain.{is_insert}
+use Rattle.gp_algebra.specs.Stops.{is_insert}
 use Rattle.gp_algebra.specs.WellBuilt.{is_among}
 use Rattle.gp_exec.specs.declared.env.Env.{Env}
 use Rattle.gp_exec.specs.declared.error.ExecStop.{ExecStop}

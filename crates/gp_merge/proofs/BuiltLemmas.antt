@@ -9,7 +9,7 @@ use Rattle.gp_expr.specs.ExpressionForms.{cond_is_simple}
 use Rattle.gp_expr.specs.Sizes.{size}
 use Rattle.gp_expr.specs.Substitution.{substituted_each}
 use Rattle.gp_algebra.specs.Plain.{Plain, scan, step, select, project, product, union, given, publish, PlainStep, PlainProgram}
-use Rattle.gp_algebra.specs.Plain.{is_insert}
+use Rattle.gp_algebra.specs.Stops.{is_insert}
 use Rattle.gp_algebra.specs.WellBuilt.{makes_no_identity, may_be_identity, is_among, is_above, query_is_built, rows_are_built, step_is_built, steps_are_built, numbers_after, is_well_built}
 use Rattle.gp_merge.specs.Merging.{inlined, stays, settled, tests_times, is_small, selected, projected, rebuilt, merged}
 use Rattle.gp_merge.specs.MergingForms.{step_inlined, program_inlined, step_rebuilt}

@@ -5,7 +5,7 @@ use Rattle.std.proofs.lemmas.Bool.{and_parts, false≢true, eqb-true}
 use Rattle.gp_expr.specs.Expressions.{Expr, Cond}
 use Rattle.gp_expr.specs.Substitution.{substituted_each}
 use Rattle.gp_algebra.specs.Plain.{Plain, scan, step, select, project, product, union, given, publish, PlainStep, PlainProgram, PlainEnvironment}
-use Rattle.gp_algebra.specs.Plain.{is_insert}
+use Rattle.gp_algebra.specs.Stops.{is_insert}
 use Rattle.gp_merge.specs.Merging.{uses, program_uses, inlined, stays, settled, is_small, selected, projected, rebuilt, merged}
 use Rattle.gp_merge.specs.MergingForms.{step_inlined, program_inlined, step_rebuilt}
 use Rattle.gp_merge.specs.Normal.{can_be_one, is_tight, are_normal, is_normal}

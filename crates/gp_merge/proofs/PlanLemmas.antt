@@ -5,7 +5,7 @@ use Rattle.std.proofs.lemmas.Bool.{false≢true, eqb-true}
 use Rattle.std.proofs.lemmas.List.{reverse-append}
 use Rattle.std.proofs.lemmas.Bool.Decides.{nat_tests}
 use Rattle.gp_algebra.specs.Plain.{Plain, scan, step, select, project, product, union, given, publish, PlainStep, PlainProgram}
-use Rattle.gp_algebra.specs.Plain.{is_insert}
+use Rattle.gp_algebra.specs.Stops.{is_insert}
 use Rattle.gp_algebra.specs.declared.plain.PQuery.{PQuery}
 use Rattle.gp_algebra.specs.declared.program.Step as code
 use Rattle.gp_algebra.specs.PlainViews.{step_view}

@@ -7,7 +7,7 @@ use Rattle.gp_base.specs.declared.cell.Cell.{Cell}
 use Rattle.gp_algebra.specs.Plain.{Plain, PlainStep, PlainProgram, PlainEnvironment, meaning, steps_meaning, with_step, no_steps}
 use Rattle.gp_algebra.specs.Stops as stops
 use Rattle.gp_algebra.specs.Stops.{Stop, first_stop, steps_stop, program_stop}
-use Rattle.gp_algebra.specs.Plain.{is_insert}
+use Rattle.gp_algebra.specs.Stops.{is_insert}
 use Rattle.gp_merge.specs.Merging.{inlined, stays, settled, merged}
 use Rattle.gp_merge.specs.MergingForms.{insert_numbers, step_inlined, program_inlined, step_rebuilt}
 use Rattle.gp_algebra.specs.WellBuilt.{is_among}

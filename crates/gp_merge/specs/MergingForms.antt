@@ -3,7 +3,8 @@ use Rattle.std.specs.Prelude.{ℕ, ◌+◌, ◌||◌, Bool, false, List, [], ◌
 use Rattle.gp_expr.specs.Expressions.{Expr, Cond, Parts}
 use Rattle.gp_expr.specs.Gathering.{gathered, cond_gathered, parts_gathered}
 use Rattle.gp_expr.specs.Sizes.{size}
-use Rattle.gp_algebra.specs.Plain.{Plain, PlainStep, PlainProgram, is_insert}
+use Rattle.gp_algebra.specs.Plain.{Plain, PlainStep, PlainProgram}
+use Rattle.gp_algebra.specs.Stops.{is_insert}
 use Rattle.gp_merge.specs.Merging.{decides_by_times, inlined, is_times, rebuilt, with_queries}
 
 -- whether a product of provenance is computed

@@ -1,6 +1,7 @@
 -- Rows as tables hold them: no cell is an identity, and no identity has too many nodes. Versions have such rows, and so has what a transaction reads, as long as
 -- none of its statements stops.
 use Rattle.std.proofs.Common.{◌≡◌, ℕ, zero, suc, ◌≤◌, ◌==◌, nat_lt, not, ℤ, ◌+ℤ◌, ◌-ℤ◌, ◌*ℤ◌, neg_ℤ, Bool, true, false, true≢false, ◌&&◌, List, [], ◌∷◌, ◌++◌, get_or, length, map, Option, Some, None, if◌then◌else◌, refl, sym, ◌∙◌}
+use Rattle.std.specs.Prelude.{unwrap_or}
 use Rattle.std.specs.List.{AllByRecursion, list_all, list_any}
 use Rattle.std.proofs.lemmas.Bool.{eqb-true, and_from, and_parts, ltb-false, or_parts}
 use Rattle.std.proofs.lemmas.List.Folds.{list_all-append}
@@ -18,7 +19,7 @@ use Rattle.gp_expr.specs.Expressions.{Cond, Expr}
 use Rattle.gp_expr.specs.ExpressionForms.{all_leaves, is_simple}
 use Rattle.gp_expr.specs.Values.{column, holds, negated, number, on_numbers, passes, truth, value}
 use Rattle.gp_algebra.specs.Answers.{Element, answer, answer_from, choices, chosen, joined, passes_where, values}
-use Rattle.gp_algebra.specs.Effects.{assigned, assigned_from, changed, given_from, made, set_for, set_or, with_rows}
+use Rattle.gp_algebra.specs.Effects.{assigned, assigned_from, changed, given_from, made, set_for, with_rows}
 use Rattle.gp_algebra.specs.Fitting.{branch_fits, expr_fits, is_countable, is_there, joined_width, row_fits, set_fits, statement_fits}
 use Rattle.gp_algebra.specs.Statements.{width_of}
 use Rattle.gp_algebra.specs.Statements.{Branch, Select, SetExpr, Statement, delete, insert, insert_select, read, update}
@@ -169,11 +170,11 @@ module _ {M : Type 0} (domain : Annotations M) (most : ℕ) where
 
   -- the expressions of an UPDATE
   set_fit : (width n : ℕ) (sets : List SetExpr) → list_all (set_fits width) sets ≡ true → (row : List Cell) → list_all is_user_cell row ≡ true
-      → is_user_cell (value (set_or (set_for n sets) (e.col n)) row) ≡ true
+      → is_user_cell (value (unwrap_or (set_for n sets) (e.col n)) row) ≡ true
   set_fit width n [] fit row all = user_column n row all
   set_fit width n (set ∷ sets) fit row all =
       let are = and_parts (set_fits width set) _ fit in
-      elim (set.col == n) as (λ b. is_user_cell (value (set_or (if b then Some set.expr else set_for n sets) (e.col n)) row) ≡ true) [
+      elim (set.col == n) as (λ b. is_user_cell (value (unwrap_or (if b then Some set.expr else set_for n sets) (e.col n)) row) ≡ true) [
         | true ↦ user_fitting width row all set.expr (and_parts _ _ are.0).1
         | false ↦ set_fit width n sets are.1 row all
       ]

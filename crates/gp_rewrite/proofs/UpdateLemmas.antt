@@ -1,5 +1,6 @@
 -- UPDATE as a projection with CASE, DELETE as a selection.
 use Rattle.std.proofs.Common.{◌≡◌, ℕ, zero, suc, ◌+◌, Bool, true, false, cond, List, [], ◌∷◌, ◌++◌, length, refl, sym, ap, ◌∙◌, subst, arith, map, Option, Some, None}
+use Rattle.std.specs.Prelude.{unwrap_or}
 use Rattle.std.specs.Prelude.{not, get_or}
 use Rattle.std.specs.List.{AllByRecursion, filter}
 use Rattle.std.proofs.lemmas.List.{append_assoc, length-append}
@@ -11,7 +12,7 @@ use Rattle.gp_base.specs.Annotated.{Annotations, Annotated, Environment}
 use Rattle.gp_expr.specs.Expressions.{Expr, Cond, col, is_true}
 use Rattle.gp_expr.specs.Values.{column, holds, tested, truth, value, passes}
 use Rattle.gp_algebra.specs.Answers.{values}
-use Rattle.gp_algebra.specs.Effects.{assigned, assigned_from, changed, set_for, set_or}
+use Rattle.gp_algebra.specs.Effects.{assigned, assigned_from, changed, set_for}
 use Rattle.gp_algebra.specs.AnnotatedQueries.{Query}
 use Rattle.gp_algebra.specs.AnnotatedMeaning.{Derived, meaning, projected, scanned}
 use Rattle.gp_algebra.specs.Statements.{SetExpr}
@@ -55,7 +56,7 @@ cased_are sets c row n (suc more) =
   where
     go : (o : Option Expr) (b : Bool) → passes c row ≡ b →
         value (cased c (suc n) o) row ∷ cond b (values (assigned_from sets (suc n) more) row) (values (columns_from (suc n) more) row)
-        ≡ cond b (value (set_or o (col (suc n))) row ∷ values (assigned_from sets (suc n) more) row) (column (suc n) row ∷ values (columns_from (suc n) more) row)
+        ≡ cond b (value (unwrap_or o (col (suc n))) row ∷ values (assigned_from sets (suc n) more) row) (column (suc n) row ∷ values (columns_from (suc n) more) row)
     go None true e = refl
     go None false e = refl
     go (Some x) true e = ap (λ b. cond b (value x row) (column (suc n) row) ∷ values (assigned_from sets (suc n) more) row) e

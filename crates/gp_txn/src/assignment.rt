@@ -1,9 +1,9 @@
 //! The rows that an UPDATE makes.
 
-ghost use Rattle.std.specs.Prelude.{◌≡◌, true, map, IfOk};
+ghost use Rattle.std.specs.Prelude.{◌≡◌, true, map, unwrap_or, IfOk};
 ghost use Rattle.std.specs.List.{list_all};
 ghost use Rattle.gp_base.specs.CellForms.{cell_view};
-ghost use Rattle.gp_algebra.specs.Effects.{assigned, set_for, set_or};
+ghost use Rattle.gp_algebra.specs.Effects.{assigned, set_for};
 ghost use Rattle.gp_algebra.specs.Views.{set_view};
 ghost use Rattle.gp_expr.specs.Expressions.{col};
 ghost use Rattle.gp_expr.specs.Values.{column, value};
@@ -19,7 +19,7 @@ fn new_cell<'a>(sets: &'a [SetExpr], n: usize, row: &'a Row, own: &'a Cell) -> C
     requires sets { list_all set_is_simple (map set_view sets.now) ≡ true }
     requires own { own.now ≡ column n row.now }
     ensures { cell_view result
-        ≡ value (set_or (set_for n (map set_view sets.now)) (col n)) row.now }
+        ≡ value (unwrap_or (set_for n (map set_view sets.now)) (col n)) row.now }
 {
     for set in sets {
         if set.col as usize == n {
