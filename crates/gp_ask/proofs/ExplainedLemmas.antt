@@ -35,7 +35,8 @@ use Rattle.gp_check.proofs.ValidLemmas.{command-derived}
 use Rattle.gp_machine.specs.Entries.{Entry, Created, Began, Ran, Committed, Ended, line_of, session_of}
 use Rattle.gp_machine.specs.Questions.{log_refusal, statement_refusal, transaction_refusal}
 use Rattle.gp_log.specs.declared.limit.TheConstants.{MAX_ENTRIES}
-use Rattle.gp_log.specs.Discipline.{Does, IsLog}
+use Rattle.gp_log.specs.Discipline.{Does}
+use Rattle.gp_log.specs.WholeLogs.{IsLog}
 use Rattle.gp_log.specs.LogFacts.{tables_in}
 use Rattle.gp_log.specs.LogFitting.{statements_fit}
 use Rattle.gp_log.specs.Parameters.{parameters}

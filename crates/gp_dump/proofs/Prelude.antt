@@ -41,7 +41,8 @@ pub use Rattle.gp_grammar.specs.Reading.{command_of}
 pub use Rattle.gp_grammar.specs.Syntax.{Bytes, Command, Item, Term}
 pub use Rattle.gp_log.proofs.EntryLemmas.{log-pushed}
 pub use Rattle.gp_log.proofs.LineCommands.{reads-parsed}
-pub use Rattle.gp_log.specs.Discipline.{Disorder, Does, Flaw, IsLog, IsNext, Loses, Said, command_entry, last_line, next_entry, said_by, statement_entry, transaction_in}
+pub use Rattle.gp_log.specs.Discipline.{Disorder, Does, Flaw, IsNext, Loses, Said, command_entry, last_line, next_entry, said_by, statement_entry, transaction_in}
+pub use Rattle.gp_log.specs.WholeLogs.{IsLog}
 pub use Rattle.gp_log.specs.LogFacts.{tables_in}
 pub use Rattle.gp_log.specs.Logs.{entry_view, log_view, what_view}
 pub use Rattle.gp_log.specs.Parameters.{parameters}

@@ -8,7 +8,8 @@ use Rattle.gp_versions.specs.declared.span.Span.{Span}
 use Rattle.gp_versions.specs.Spans.{span_cmp}
 use Rattle.gp_machine.specs.Entries.{Entry, versions_in}
 use Rattle.gp_log.specs.declared.limit.TheConstants.{MAX_ENTRIES}
-use Rattle.gp_log.specs.Discipline.{IsLog, said_by}
+use Rattle.gp_log.specs.Discipline.{said_by}
+use Rattle.gp_log.specs.WholeLogs.{IsLog}
 use Rattle.gp_log.specs.LogFacts.{tables_in}
 use Rattle.gp_log.specs.Parameters.{parameters}
 use Rattle.gp_dumpline.specs.Said.{IsSaid}

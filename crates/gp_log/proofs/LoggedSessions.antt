@@ -13,7 +13,8 @@ use Rattle.gp_machine.specs.ActionForms.{Action, Begin, Commit, Create, Rollback
 use Rattle.gp_machine.specs.Entries.{Entry, RolledBack, Lost, Created, Began, Ran, Committed, Ended, statement_count, statements_in, transactions_in}
 use Rattle.gp_machine.specs.Event.{count_refusal}
 use Rattle.gp_machine.specs.Parameters.{Parameters}
-use Rattle.gp_log.specs.Discipline.{Flaw, Disorder, Unchecked, IsLog, IsNext, creation_entry, command_entry, statement_entry, transaction_in}
+use Rattle.gp_log.specs.Discipline.{Flaw, Disorder, Unchecked, IsNext, creation_entry, command_entry, statement_entry, transaction_in}
+use Rattle.gp_log.specs.WholeLogs.{IsLog}
 use Rattle.gp_log.specs.LogFacts.{tables_in}
 use Rattle.gp_log.specs.Sessions.{KeepsSessions}
 

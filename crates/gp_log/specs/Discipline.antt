@@ -85,8 +85,3 @@ pub record IsNext (parameters : Parameters) (older : List Entry) (entry : Entry)
   pub line : line_of entry ≤ MAX_LINE
   pub first : 1 ≤ session_of entry
   pub session : session_of entry ≤ MAX_SESSION
-
--- every entry follows those before it; the newest is first
-abbrev pub IsLog : Parameters → List Entry → Type 0
-IsLog parameters [] = Unit {0}
-IsLog parameters (entry ∷ older) = IsNext parameters older entry × IsLog parameters older

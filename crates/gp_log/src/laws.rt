@@ -1,7 +1,7 @@
 //! Laws of logs. Each function does nothing: its postconditions are the laws.
 
 ghost use Rattle.std.specs.Prelude.{◌≡◌, ◌<◌, ◌≤◌, ◌↔◌, ◌⊎◌, ℕ, false, List, Some, None};
-ghost use Rattle.gp_log.specs.Discipline.{IsLog};
+ghost use Rattle.gp_log.specs.WholeLogs.{IsLog};
 ghost use Rattle.gp_machine.specs.Entries.{Entry, begin_version, is_read_committed, statement_at, statement_count, statement_version, transactions_in, version_of};
 ghost use Rattle.gp_machine.specs.Parameters.{Parameters};
 

@@ -18,7 +18,8 @@ use Rattle.gp_check.proofs.ValidLemmas.{command-read}
 use Rattle.gp_machine.specs.Entries as m
 use Rattle.gp_machine.specs.Entries.{session_of}
 use Rattle.gp_machine.specs.Event.{Line}
-use Rattle.gp_log.specs.Discipline.{Said, Does, Loses, IsLog, last_line, said_by}
+use Rattle.gp_log.specs.Discipline.{Said, Does, Loses, last_line, said_by}
+use Rattle.gp_log.specs.WholeLogs.{IsLog}
 use Rattle.gp_log.specs.Logs.{entry_view, log_view}
 use Rattle.gp_log.specs.Parameters.{parameters}
 use Rattle.gp_log.specs.ScriptLines.{AreLinesAfter, AreScriptLines, IsLineAfter}

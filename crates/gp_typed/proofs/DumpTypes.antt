@@ -14,7 +14,7 @@ use Rattle.gp_check.proofs.FittingLemmas.{fits}
 use Rattle.gp_check.proofs.ValidLemmas.{command-derived, tables-added}
 use Rattle.gp_machine.specs.Entries.{versions_in}
 use Rattle.gp_versions.specs.declared.span.Span.{Span}
-use Rattle.gp_log.specs.Discipline.{IsLog}
+use Rattle.gp_log.specs.WholeLogs.{IsLog}
 use Rattle.gp_log.specs.Parameters.{parameters}
 use Rattle.gp_log.proofs.CheckedEntries.{was_checked}
 use Rattle.gp_dumpline.specs.Rows.{AreReadable, IsPart, IsReadable}

@@ -16,7 +16,8 @@ pub use Rattle.gp_grammar.specs.Syntax.{Command, LogChange}
 pub use Rattle.gp_log.proofs.EntryLemmas.{log-pushed}
 pub use Rattle.gp_log.proofs.FindingLemmas.{log-more}
 pub use Rattle.gp_log.proofs.KeptSessions.{commits_in_order}
-pub use Rattle.gp_log.specs.Discipline.{IsLog, transaction_in}
+pub use Rattle.gp_log.specs.Discipline.{transaction_in}
+pub use Rattle.gp_log.specs.WholeLogs.{IsLog}
 pub use Rattle.gp_log.specs.Kinds.{IsAddable, IsNumbered}
 pub use Rattle.gp_log.specs.LogFacts.{tables_in}
 pub use Rattle.gp_log.specs.LogFitting.{statements_fit}
