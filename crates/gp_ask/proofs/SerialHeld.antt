@@ -16,14 +16,14 @@ use Rattle.gp_machine.specs.Points.{run_stop}
 use Rattle.gp_machine.specs.Precedence.{is_before}
 use Rattle.gp_machine.specs.RowChanges.{tables_changes}
 use Rattle.gp_machine.specs.SeenRows.{HaveDifferentIdentities}
-use Rattle.gp_machine.specs.SerialForms.{AreOnce, IsSerialAs, committers}
+use Rattle.gp_machine.specs.Orders.{AreOnce}
+use Rattle.gp_machine.specs.SerialForms.{IsSerialAs, committers}
 use Rattle.gp_machine.specs.SerialRuns.{is_serial}
 use Rattle.gp_machine.specs.State.{State}
 use Rattle.gp_versions.specs.declared.span.Span.{Span}
 use Rattle.gp_versions.specs.Spans.{rows_at, span_cmp, spans_at}
 use Rattle.gp_versions.specs.TableSpans.{AreOfDifferentRows, AreWhole, NoOverlap}
 use Rattle.gp_serial.specs.Graphs.{order_of}
-use Rattle.gp_serial.specs.Serializing as s
 use Rattle.gp_serial.proofs.OrderLemmas.{order_has_all}
 use Rattle.gp_serial.proofs.SerialOrders.{are_once}
 use Rattle.gp_serial.proofs.SerializingLemmas.{all_different, order_different}
@@ -55,13 +55,13 @@ module _ (state : State (Unit {0})) (keeps : KeepsSessions state.entries) (whole
   -- ---- an order
 
   pub runs_serially : (texts : List (List ℕ)) → serial_answer (dump_of state) ≡ Lines Serial texts
-      → ((order : List ℕ) → AreOnce order → IsPermutation order (committers state) → is_serial parameters (log_of state.entries) (length state.catalogue) (as_of unannotated spans) order ≡ true → IsSerialAs state order)
+      → ((order : List ℕ) → AreOnce order → IsPermutation order (committers state.entries) → is_serial parameters (log_of state.entries) (length state.catalogue) (as_of unannotated spans) order ≡ true → IsSerialAs state order)
       → RunsSerially state texts
   runs_serially texts e serial_as =
       let found = order_given tables state.entries (tables_changes 0 (dump_of state).tables) spans texts _ _ e in
-      let order : List ℕ = order_of before (s.committers state.entries) in
+      let order : List ℕ = order_of before (committers state.entries) in
       let same : IsSerialAs state order =
-      serial_as order (are_once order (order_different state.entries keeps before)) (order_has_all before (s.committers state.entries) (all_different state.entries keeps) found.all)
+      serial_as order (are_once order (order_different state.entries keeps before)) (order_has_all before (committers state.entries) (all_different state.entries keeps) found.all)
       (subst (λ (own : List Table). is_serial parameters (log_of state.entries) (length own) (as_of unannotated spans) order ≡ true) whole found.serial) in
       record {
         order = order;

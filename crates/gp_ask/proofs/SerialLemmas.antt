@@ -19,7 +19,8 @@ use Rattle.gp_machine.specs.Questions.{stop_refusal}
 use Rattle.gp_machine.specs.RowChanges.{RowChange}
 use Rattle.gp_machine.specs.SerialRuns.{is_serial}
 use Rattle.gp_serial.specs.Graphs.{least_cycle, order_of}
-use Rattle.gp_serial.specs.Serializing.{InCycle, InOrder, Serial, Undecided, by_number, committers, in_order, runs_refusal, serial_by, serial_of, steps_of}
+use Rattle.gp_machine.specs.SerialForms.{committers}
+use Rattle.gp_serial.specs.Serializing.{InCycle, InOrder, Serial, Undecided, by_number, in_order, runs_refusal, serial_by, serial_of, steps_of}
 use Rattle.gp_versions.specs.declared.span.Span.{Span}
 use Rattle.gp_ask.specs.declared.answered.Answered.{Answered}
 use Rattle.gp_ask.specs.declared.answered.Answered.TheVariants as answered

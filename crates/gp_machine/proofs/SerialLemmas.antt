@@ -36,7 +36,8 @@ use Rattle.gp_machine.specs.ReadBy.{start_by}
 use Rattle.gp_machine.specs.Replaying.{replay_stop}
 use Rattle.gp_machine.specs.ReplayForms.{CommitsInOrder}
 use Rattle.gp_machine.specs.Runs.{refreshed, run_before}
-use Rattle.gp_machine.specs.SerialForms.{AreOnce, IsSerialAs, committers, made_by}
+use Rattle.gp_machine.specs.Orders.{AreOnce}
+use Rattle.gp_machine.specs.SerialForms.{IsSerialAs, committers, made_by}
 use Rattle.gp_machine.specs.SerialRuns.{are_same, does_same, ends_same, first_do_same, is_serial, maker_in, place_in, row_cells, serial_log, serial_replay, shown}
 use Rattle.gp_machine.specs.State.{State, start}
 use Rattle.gp_algebra.specs.Effects.{Written}
@@ -193,7 +194,7 @@ module _ (parameters : Parameters) (lines : List Line) (spans : ℕ → List Spa
 
 module _ (parameters : Parameters) (lines : List Line) (spans : ℕ → List Span)
     (are : (table : ℕ) → IsPermutation (spans table) (state_spans (after unannotated parameters start lines) table)) (order : List ℕ) (once : AreOnce order)
-    (all : IsPermutation order (committers (after unannotated parameters start lines)))
+    (all : IsPermutation order (committers (after unannotated parameters start lines).entries))
     (is : is_serial parameters (log_of (after unannotated parameters start lines).entries) (length (after unannotated parameters start lines).catalogue) (as_of unannotated spans) order ≡ true) where
   abbrev state : State (Unit {0})
   state = after unannotated parameters start lines
@@ -235,7 +236,7 @@ module _ (parameters : Parameters) (lines : List Line) (spans : ℕ → List Spa
   -- what a transaction read before a statement, and what it reads now
   module _ (t k : ℕ) (there : Contains order t) (l : k < statement_count t state.entries) where
     maker : (u : ℕ) × (u < versions_in state.entries) × (committer_of (suc u) state.entries ≡ t)
-    maker = numbered_from (λ version. committer_of version state.entries) (versions_in state.entries) t (Contains-permutation order (committers state) t all there)
+    maker = numbered_from (λ version. committer_of version state.entries) (versions_in state.entries) t (Contains-permutation order (committers state.entries) t all there)
 
     before : SameTables (run_before unannotated log t k past) (start_by unannotated log t k state.committed)
     before table =

@@ -10,6 +10,7 @@ pub mod Entries
 pub mod Event
 pub mod Histories
 pub mod HistorySpans
+pub mod Orders
 pub mod Parameters
 pub mod Points
 pub mod Publishing

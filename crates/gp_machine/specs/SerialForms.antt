@@ -1,10 +1,10 @@
 -- Part of the statement: a history in which the transactions that committed in another one run one after another, and each does what it did there.
 use Rattle.std.specs.List.Sorted.{IsPermutation}
-use Rattle.std.specs.Prelude.{◌≡◌, ℕ, suc, ◌<◌, Contains, List, length, map, get_or, Some}
+use Rattle.std.specs.Prelude.{◌≡◌, ℕ, suc, ◌<◌, Contains, List, length, map, Some}
 use Rattle.gp_base.specs.Annotated.{unannotated}
 use Rattle.gp_algebra.specs.Answers.{answer, cells_of}
 use Rattle.gp_algebra.specs.Statements.{Select, Statement, read}
-use Rattle.gp_machine.specs.Entries.{committer_of, log_of, statement_at, statement_count, versions_in}
+use Rattle.gp_machine.specs.Entries.{Entry, committer_of, log_of, statement_at, statement_count, versions_in}
 use Rattle.gp_machine.specs.Histories.{IsHistory}
 use Rattle.gp_machine.specs.Precedence.{numbers}
 use Rattle.gp_machine.specs.ReadBy.{start_by}
@@ -12,13 +12,9 @@ use Rattle.gp_machine.specs.Replaying.{Replay}
 use Rattle.gp_machine.specs.SerialRuns.{row_cells, serial_log, serial_replay, shown}
 use Rattle.gp_machine.specs.State.{State}
 
--- no number has two places
-abbrev pub AreOnce : List ℕ → Type 0
-AreOnce list = (u v : ℕ) → u < length list → v < length list → get_or list u 0 ≡ get_or list v 0 → u ≡ v
-
 -- the transactions that committed, in the order of their versions
-abbrev pub committers : State (Unit {0}) → List ℕ
-committers state = map (λ version. committer_of version state.entries) (numbers (versions_in state.entries))
+abbrev pub committers : List Entry → List ℕ
+committers entries = map (λ version. committer_of version entries) (numbers (versions_in entries))
 
 -- the versions that they make, one after another in this order
 abbrev pub made_by : State (Unit {0}) → List ℕ → Replay (Unit {0})
@@ -26,7 +22,7 @@ made_by state order = serial_replay unannotated order (log_of state.entries) (le
 
 pub record IsSerialAs (state : State (Unit {0})) (order : List ℕ) : Type 0 where
   -- those that committed
-  pub all : IsPermutation order (committers state)
+  pub all : IsPermutation order (committers state.entries)
   -- a history in which they run one after another
   pub history : IsHistory unannotated (serial_log order (log_of state.entries)) (made_by state order).committed (made_by state order).written
   -- each of their statements changes the same rows

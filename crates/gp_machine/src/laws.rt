@@ -46,7 +46,8 @@ ghost use Rattle.gp_machine.specs.ReplayForms.{CommitsInOrder, upto_version, rep
 ghost use Rattle.gp_machine.specs.Represents.{Kept, Overlay, Represents, kept_start};
 ghost use Rattle.gp_machine.specs.ReadBy.{start_by};
 ghost use Rattle.gp_machine.specs.Runs.{at_commit, run, run_before};
-ghost use Rattle.gp_machine.specs.SerialForms.{AreOnce, IsSerialAs, committers};
+ghost use Rattle.gp_machine.specs.Orders.{AreOnce};
+ghost use Rattle.gp_machine.specs.SerialForms.{IsSerialAs, committers};
 ghost use Rattle.gp_machine.specs.SerialRuns.{is_serial, serial_log, serial_replay};
 ghost use Rattle.gp_machine.specs.State.{Active, State, start};
 ghost use Rattle.gp_machine.specs.StateReannotation.{AreEqualButForAnnotations, AreReannotated, IsReannotated, outcome_reannotated, state_reannotated};
@@ -493,7 +494,7 @@ pub fn serial_orders_are_histories()
     ensures same { (parameters : Parameters) (lines : List Line) (spans : ℕ → List Span) → ((table : ℕ)
         → IsPermutation (spans table) (state_spans (after unannotated parameters start lines) table))
         → (order : List ℕ) → AreOnce order
-        → IsPermutation order (committers (after unannotated parameters start lines))
+        → IsPermutation order (committers (after unannotated parameters start lines).entries)
         → is_serial parameters (log_of (after unannotated parameters start lines).entries)
         (length (after unannotated parameters start lines).catalogue)
         (as_of unannotated spans) order ≡ true

@@ -11,7 +11,8 @@ use Rattle.gp_serial.specs.Preceding.{IsMadeBy, IsPrecedence}
 use Rattle.gp_serial.specs.SerialLogs.{AreFew}
 use Rattle.gp_serial.specs.SerialViews.{IsSerialOf, IsSerializable, IsTried, RunsWhole, cycle_answer}
 use Rattle.gp_serial.specs.Serializing as s
-use Rattle.gp_serial.specs.Serializing.{by_number, committers, runs_refusal, serial_of}
+use Rattle.gp_machine.specs.SerialForms.{committers}
+use Rattle.gp_serial.specs.Serializing.{by_number, runs_refusal, serial_of}
 use Rattle.gp_serial.proofs.SerializingLemmas.{made_by, order_few, order_whole, short_answer, whole_answer}
 
 module _ (log : Logged) (versions : List Versions) (rules : IsSerializable log versions) (none : runs_refusal parameters (entries log) (spans_of versions) (commits log) ≡ None)

@@ -1,7 +1,7 @@
 -- The entries of the serial log say that the transactions run one after another in their order.
 use Rattle.gp_serial.proofs.Prelude.{◌≡◌, ◌<◌, ◌≤◌, ◌+◌, ℕ, zero, suc, Bool, true, false, cond, List, [], ◌∷◌, length, get_or, refl, sym, ap, ◌∙◌, arith, ◌==◌, ◌||◌, nat_le, nat_lt, AllByRecursion, list_any, and_parts, false≢true, nat_tests, Table, eq_itself, Entry, log_of, transactions_in, versions_in, is_known, AreDistinct, place_in, tables_in}
 use Rattle.gp_base.proofs.SmallLemmas.{eq_turned}
-use Rattle.gp_machine.specs.SerialForms.{AreOnce}
+use Rattle.gp_machine.specs.Orders.{AreOnce}
 use Rattle.gp_serial.specs.SerialLogs.{serial_entries}
 use Rattle.gp_serial.proofs.SerialEntries.{AreNext, Says, base, behind, done_after, is_done, says_all, says_first}
 use Rattle.gp_serial.proofs.SerialReplays.{SaysSerial}

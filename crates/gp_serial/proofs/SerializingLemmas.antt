@@ -11,7 +11,8 @@ use Rattle.gp_serial.specs.Graphs.{is_free, least_cycle, order_of, ordered}
 use Rattle.gp_serial.specs.Preceding.{IsMadeBy, IsPrecedence}
 use Rattle.gp_serial.specs.SerialLogs.{AreFew}
 use Rattle.gp_serial.specs.SerialViews.{cycle_answer}
-use Rattle.gp_serial.specs.Serializing.{InOrder, Serial, Undecided, by_number, committers, runs_refusal, serial_by, serial_of}
+use Rattle.gp_machine.specs.SerialForms.{committers}
+use Rattle.gp_serial.specs.Serializing.{InOrder, Serial, Undecided, by_number, runs_refusal, serial_by, serial_of}
 use Rattle.gp_serial.proofs.AgreeLemmas.{least_agree, order_agree}
 use Rattle.gp_serial.proofs.OrderLemmas.{AreDifferent, order_takes, rest_of, without_different}
 use Rattle.gp_serial.proofs.WholeOrders.{is_in, none_least}

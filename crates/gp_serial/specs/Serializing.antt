@@ -1,17 +1,18 @@
 -- Part of the statement: whether the transactions that committed could have run one after another. Where which comes before which has no cycle, the order that keeps
 -- it is tried: they run in it, and are compared with what they did.
-use Rattle.std.specs.Prelude.{ℕ, zero, suc, ◌==◌, ◌&&◌, List, [], ◌∷◌, filter, length, map, is_some, slice_get, Option, None, if◌then◌else◌}
+use Rattle.std.specs.Prelude.{ℕ, zero, suc, ◌==◌, ◌&&◌, List, [], ◌∷◌, filter, length, is_some, slice_get, Option, None, if◌then◌else◌}
 use Rattle.std.specs.Option.{option_map, option_or}
 use Rattle.gp_base.specs.declared.refusal.Refusal.{Refusal}
 use Rattle.gp_base.specs.Annotated.{unannotated}
 use Rattle.gp_base.specs.declared.table.Table.{Table}
-use Rattle.gp_machine.specs.Entries.{Entry, committer_of, log_of, statement_count, transactions_in, version_of, versions_in}
+use Rattle.gp_machine.specs.Entries.{Entry, committer_of, log_of, statement_count, transactions_in, version_of}
 use Rattle.gp_machine.specs.HistorySpans.{as_of}
 use Rattle.gp_machine.specs.Parameters.{Parameters}
 use Rattle.gp_machine.specs.Points.{run_stop}
 use Rattle.gp_machine.specs.Precedence.{Reason, is_before, numbers, reasons}
 use Rattle.gp_machine.specs.Questions.{stop_refusal}
 use Rattle.gp_machine.specs.RowChanges.{RowChange}
+use Rattle.gp_machine.specs.SerialForms.{committers}
 use Rattle.gp_machine.specs.SerialRuns.{is_serial}
 use Rattle.gp_versions.specs.declared.span.Span.{Span}
 use Rattle.gp_serial.specs.Graphs.{least_cycle, order_of}
@@ -35,11 +36,7 @@ pub data Serial : Type 0 where
   InCycle : List Step → Serial
   Undecided : Serial
 
--- the transactions that committed, in the order of their versions
-abbrev pub committers : List Entry → List ℕ
-committers entries = map (λ version. committer_of version entries) (numbers (versions_in entries))
-
--- and in the order of their numbers
+-- the transactions that committed, in the order of their numbers
 abbrev pub by_number : List Entry → List ℕ
 by_number entries = filter (λ t. is_some (version_of t entries)) (numbers (transactions_in entries))
 

@@ -10,6 +10,7 @@ ghost use Rattle.gp_machine.specs.Entries.{statement_count};
 ghost use Rattle.gp_machine.specs.Precedence as m;
 ghost use Rattle.gp_machine.specs.Questions.{is_known};
 ghost use Rattle.gp_machine.specs.RowChanges.{tables_changes};
+ghost use Rattle.gp_machine.specs.SerialForms.{committers};
 ghost use Rattle.gp_reenact.specs.Reenacting.{spans_of};
 ghost use Rattle.gp_serial.specs.Changes.{AreMade, change_view, tables_of};
 ghost use Rattle.gp_serial.specs.Comparing as c;
@@ -64,7 +65,7 @@ pub enum Serial<'a> {
 
 /// The transactions that committed, in the order of their versions.
 fn committers(alloc: Global, log: &Log) -> Result<Vec<u32>, NoMemory>
-    ensures { IfOk result (λ found. found.items ≡ s.committers (entries log.now)) }
+    ensures { IfOk result (λ found. found.items ≡ committers (entries log.now)) }
 {
     let mut committers = Vec::with_capacity(alloc, log.commits() as usize)?;
     for before in 0..log.commits() {
@@ -402,7 +403,7 @@ fn serial_by<'a>(
 ) -> Result<Serial<'a>, SerialStop>
     requires rules { IsSerializable log.now versions.now }
     requires runs { s.runs_refusal parameters (entries log.now) (spans_of versions.now) (commits log.now) ≡ None }
-    requires all { all.now ≡ s.committers (entries log.now) }
+    requires all { all.now ≡ committers (entries log.now) }
     requires changes { map change_view changes.now ≡ tables_changes 0 (tables_of versions.now) }
     requires made { AreMade (entries log.now) changes.now }
     ensures { IsSerialOf (entries log.now) versions.now
