@@ -13,6 +13,7 @@ pub(crate) struct System<R: Drop> {
 }
 
 impl<R: Drop> System<R> {
+    /// A system of which nothing was asked yet.
     pub fn new(rt: R) -> System<R>
         ensures { NothingNoted result.trace }
     {
