@@ -8,3 +8,4 @@ pub mod Views
 pub mod Laws
 pub mod Sources
 pub mod CellParts
+pub mod Writing
