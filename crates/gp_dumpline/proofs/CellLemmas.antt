@@ -1,7 +1,9 @@
 -- Lemmas of the cells of a row line as loops read them.
 use Rattle.std.proofs.Common.{◌≡◌, ◌≢◌, eq-eqb, ℕ, zero, suc, ◌+◌, ◌^◌, ◌<◌, ◌≤◌, Bool, true, false, not, ◌&&◌, eqb, ltb, cond, List, [], ◌∷◌, ◌++◌, length, take, drop, get_or, Option, Some, None, option_and_then, ℤ, pos, negsuc, refl, sym, ap, ◌∙◌, append_assoc, arith}
+use Rattle.std.specs.Prelude.{◌==◌, ◌-◌}
+use Rattle.std.specs.List.{list_any}
 use Rattle.std.specs.Option.{option_map}
-use Rattle.std.proofs.lemmas.Bool.{ne_eqb, cond-false, eqb-true, le-ltb}
+use Rattle.std.proofs.lemmas.Bool.{ne_eqb, cond-false, eqb-true, le-ltb, or_parts}
 use Rattle.std.proofs.lemmas.List.{drop_more, take_more, drop_all, take_all, append-nil}
 use Rattle.gp_base.specs.declared.cell.Cell.{Cell}
 use Rattle.gp_dumpline.specs.Numbers.{number_of, after_byte}
@@ -103,6 +105,24 @@ quote-early front b c bytes one other = ap (behind front) here
     here = rw (one, other) refl
 
 pub ruleset quote_steps = (quote-plain, quote-two, quote-last, quote-early)
+
+-- a text without a quote but the closing one
+plain-quoted : (body : List ℕ) → list_any (λ (byte : ℕ). byte == 39) body ≡ false → unquoted (body ++ 39 ∷ []) ≡ Some body
+plain-quoted [] none = refl
+plain-quoted (b ∷ body) none =
+    let parts = or_parts (b == 39) (list_any (λ (byte : ℕ). byte == 39) body) none in
+    plain-unquoted b (body ++ 39 ∷ []) parts.0 ∙ ap (option_map (λ (rest : List ℕ). b ∷ rest)) (plain-quoted body parts.1)
+
+-- where the last byte is a quote, and none is in front of it
+pub plain-taken : (text : List ℕ) (d : ℕ) → 1 ≤ length text → get_or text (length text - 1) d ≡ 39 → list_any (λ (byte : ℕ). byte == 39) (take (length text - 1) text) ≡ false
+    → unquoted text ≡ Some (take (length text - 1) text)
+plain-taken text d some quote none =
+    let place : ℕ = length text - 1 in
+    let within : place < length text = omega (arith, some) in
+    let whole : length text ≤ place + 1 = omega (arith, some) in
+    let split : text ≡ take place text ++ 39 ∷ [] =
+    sym (take_all (place + 1) text whole) ∙ take_more text place d within ∙ ap (λ (last : ℕ). take place text ++ last ∷ []) quote in
+    ap unquoted split ∙ plain-quoted (take place text) none
 
 -- ---- numbers
 

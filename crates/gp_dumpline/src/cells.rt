@@ -31,9 +31,25 @@ fn first_part(text: &[u8]) -> (&[u8], Option<&[u8]>)
     (text, None)
 }
 
-/// The value of a text behind its opening quote.
+/// What is in front of the closing quote, where that is the only quote.
+fn plain_text(text: &[u8]) -> Option<&[u8]>
+    ensures { IfSome result (λ body. unquoted text.now ≡ Some body.now) }
+{
+    match text {
+        [] => None,
+        [body @ .., last] => {
+            if *last == QUOTE && !body.contains(&QUOTE) {
+                Some(body)
+            } else {
+                None
+            }
+        }
+    }
+}
+
+/// The value of a text behind its opening quote, byte by byte.
 #[tactic(auto, using(crate::proofs::CellLemmas::quote_steps))]
-fn unquoted(alloc: Global, text: &[u8]) -> Result<Option<Text>, NoMemory>
+fn undoubled(alloc: Global, text: &[u8]) -> Result<Option<Text>, NoMemory>
     ensures { IfOk result (λ found. found ≡ unquoted text.now) }
 {
     let mut bytes = Vec::new(alloc);
@@ -54,6 +70,16 @@ fn unquoted(alloc: Global, text: &[u8]) -> Result<Option<Text>, NoMemory>
         bytes.push(*first)?;
     }
     Ok(None)
+}
+
+/// The value of a text behind its opening quote.
+fn unquoted(alloc: Global, text: &[u8]) -> Result<Option<Text>, NoMemory>
+    ensures { IfOk result (λ found. found ≡ unquoted text.now) }
+{
+    match plain_text(text) {
+        Some(body) => Ok(Some(Text::from_bytes(alloc, body)?)),
+        None => undoubled(alloc, text),
+    }
 }
 
 /// The number below zero of this magnitude, if it has 64 bits.

@@ -1,7 +1,7 @@
 use Rattle.std.proofs.Common.{◌≡◌, length}
 use Rattle.gp_dumpline.specs.RowForms.{unquoted}
 use Rattle.gp_dumpline.proofs.CellLemmas.{behind}
-use Rattle.gp_dumpline.proofs.cells.unquoted.Given as goal
+use Rattle.gp_dumpline.proofs.cells.undoubled.Given as goal
 
 abbrev pub invariant-loop-rest : goal.invariant-loop-rest
 invariant-loop-rest l = behind l.bytes.items (unquoted l.rest) ≡ unquoted l.text
