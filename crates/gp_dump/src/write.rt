@@ -13,7 +13,7 @@ ghost use Rattle.gp_log.specs.Contents.{entries, tables};
 
 use gp_base::{Catalog, NoMemory, Table};
 use gp_dumpline::{
-    END, begins_read_committed, header, write_count, write_entry, write_section, write_span,
+    END, append_entry, append_span, begins_read_committed, header, write_count, write_section,
 };
 use gp_log::{Entry, Log};
 use gp_versions::{Span, VersionTable};
@@ -50,7 +50,7 @@ fn write_head(alloc: Global, second: bool, lines: u32, out: &mut Vec<u8>) -> Res
 fn write_log_line(alloc: Global, entry: &Entry, out: &mut Vec<u8>) -> Result<(), NoMemory>
     ensures ok { OnOk result (out.new.items ≡ out.old.items ++ log_line_text entry.now) }
 {
-    write_entry(alloc, entry, out)?;
+    append_entry(alloc, entry, out)?;
     out.push(b'\n')?;
     Ok(())
 }
@@ -70,7 +70,7 @@ fn write_log(alloc: Global, log: &Log, out: &mut Vec<u8>) -> Result<(), NoMemory
 fn write_row_line(alloc: Global, span: &Span, out: &mut Vec<u8>) -> Result<(), NoMemory>
     ensures ok { OnOk result (out.new.items ≡ out.old.items ++ row_line_text span.now) }
 {
-    write_span(alloc, span, out)?;
+    append_span(alloc, span, out)?;
     out.push(b'\n')?;
     Ok(())
 }
