@@ -12,13 +12,13 @@ use Rattle.gp_serial.proofs.CycleLemmas.{find_map, next_numbers, numbers_next}
 
 -- ---- numbers in order
 
-cmp_less : (a b : ℕ) → a < b → nat_cmp a b ≡ Less
+pub cmp_less : (a b : ℕ) → a < b → nat_cmp a b ≡ Less
 cmp_less a b less = ap (λ t. cond t Less (cond (a == b) Equal Greater)) (lt-ltb a b less)
 
-cmp_equal : (a b : ℕ) → a ≡ b → nat_cmp a b ≡ Equal
+pub cmp_equal : (a b : ℕ) → a ≡ b → nat_cmp a b ≡ Equal
 cmp_equal a b is = ap (λ t. cond t Less (cond (a == b) Equal Greater)) (le-ltb a b (omega (arith, is))) ∙ ap (λ t. cond t Equal Greater) (eq-eqb a b is)
 
-cmp_greater : (a b : ℕ) → b < a → nat_cmp a b ≡ Greater
+pub cmp_greater : (a b : ℕ) → b < a → nat_cmp a b ≡ Greater
 cmp_greater a b less =
     ap (λ t. cond t Less (cond (a == b) Equal Greater)) (le-ltb a b (omega (arith, less)))
     ∙ ap (λ t. cond t Equal Greater) (ne_eqb a b (λ same. absurd (omega (arith, same, less))))
@@ -33,10 +33,10 @@ head_least a b others more le =
 
 -- ---- what is among some numbers
 
-abbrev is_in : List ℕ → ℕ → Bool
+abbrev pub is_in : List ℕ → ℕ → Bool
 is_in list t = list_any (λ other. other == t) list
 
-above_in : (x t : ℕ) (xs : List ℕ) → AllByRecursion (λ y. x < y) xs → is_in xs t ≡ true → x < t
+pub above_in : (x t : ℕ) (xs : List ℕ) → AllByRecursion (λ y. x < y) xs → is_in xs t ≡ true → x < t
 above_in x t [] above there = absurd (false≢true there)
 above_in x t (y ∷ xs) (own, above) there = by (y == t) refl there (above_in x t xs above)
   where
@@ -44,10 +44,10 @@ above_in x t (y ∷ xs) (own, above) there = by (y == t) refl there (above_in x 
     by true is there rest = subst (λ n. x < n) (eqb-true y t is) own
     by false is there rest = rest there
 
-in_from : (xs : List ℕ) (t : ℕ) → Contains xs t → is_in xs t ≡ true
+pub in_from : (xs : List ℕ) (t : ℕ) → Contains xs t → is_in xs t ≡ true
 in_from xs t (k, within, is) = list_any_at (λ other. other == t) xs k t within (eq-eqb (get_or xs k t) t is)
 
-from_in : (xs : List ℕ) (t : ℕ) → is_in xs t ≡ true → Contains xs t
+pub from_in : (xs : List ℕ) (t : ℕ) → is_in xs t ≡ true → Contains xs t
 from_in [] t there = absurd (false≢true there)
 from_in (x ∷ xs) t there = by (x == t) refl there (from_in xs t)
   where
@@ -55,7 +55,7 @@ from_in (x ∷ xs) t there = by (x == t) refl there (from_in xs t)
     by true is there rest = (0, omega arith, eqb-true x t is)
     by false is there rest = let own = rest there in (suc own.0, omega (arith, own.1), own.2)
 
-each_from : (P : ℕ → Type 0) (xs : List ℕ) → ((t : ℕ) → Contains xs t → P t) → AllByRecursion P xs
+pub each_from : (P : ℕ → Type 0) (xs : List ℕ) → ((t : ℕ) → Contains xs t → P t) → AllByRecursion P xs
 each_from P [] all = tt
 each_from P (x ∷ xs) all = (all x (0, omega arith, refl), each_from P xs (λ t there. all t (suc there.0, omega (arith, there.1), there.2)))
 
@@ -64,27 +64,27 @@ each_at P [] each k within d = absurd (omega (arith, within))
 each_at P (x ∷ xs) (own, each) zero within d = own
 each_at P (x ∷ xs) (own, each) (suc k) within d = each_at P xs each k (omega (arith, within)) d
 
-each_in : (P : ℕ → Type 0) (xs : List ℕ) → AllByRecursion P xs → (t : ℕ) → Contains xs t → P t
+pub each_in : (P : ℕ → Type 0) (xs : List ℕ) → AllByRecursion P xs → (t : ℕ) → Contains xs t → P t
 each_in P xs each t (k, within, is) = subst P is (each_at P xs each k within t)
 
 -- each is below those behind it
-abbrev Ascends : List ℕ → Type 0
+abbrev pub Ascends : List ℕ → Type 0
 Ascends [] = Unit {0}
 Ascends (x ∷ xs) = AllByRecursion (λ y. x < y) xs × Ascends xs
 
-ascends : (xs : List ℕ) → AllPairs (λ a b. a < b) xs → Ascends xs
+pub ascends : (xs : List ℕ) → AllPairs (λ a b. a < b) xs → Ascends xs
 ascends [] up = tt
 ascends (x ∷ xs) up = (
   each_from (λ y. x < y) xs (λ t there. subst (λ n. x < n) there.2 (up 0 (suc there.0) t (omega arith) (omega (arith, there.1)))),
   ascends xs (λ i j d less within. up (suc i) (suc j) d (omega (arith, less)) (omega (arith, within))),
 )
 
-itself_in : (xs : List ℕ) → AllByRecursion (λ t. is_in xs t ≡ true) xs
+pub itself_in : (xs : List ℕ) → AllByRecursion (λ t. is_in xs t ≡ true) xs
 itself_in xs = each_from (λ t. is_in xs t ≡ true) xs (in_from xs)
 
 -- ---- the first of the lists that passes
 
-find_passes : {A : Type 0} (p : A → Bool) (xs : List A) (x : A) → find p xs ≡ Some x → p x ≡ true
+pub find_passes : {A : Type 0} (p : A → Bool) (xs : List A) (x : A) → find p xs ≡ Some x → p x ≡ true
 find_passes p [] x e = absurd (none-some x e)
 find_passes {A} p (y ∷ xs) x e = by (p y) refl e (find_passes p xs x)
   where
@@ -92,7 +92,7 @@ find_passes {A} p (y ∷ xs) x e = by (p y) refl e (find_passes p xs x)
     by true is e rest = ap p (sym (same_Some y x e)) ∙ is
     by false is e rest = rest e
 
-find_each : {A : Type 0} (P : A → Type 0) (p : A → Bool) (xs : List A) (x : A) → AllByRecursion P xs → find p xs ≡ Some x → P x
+pub find_each : {A : Type 0} (P : A → Type 0) (p : A → Bool) (xs : List A) (x : A) → AllByRecursion P xs → find p xs ≡ Some x → P x
 find_each P p [] x each e = absurd (none-some x e)
 find_each {A} P p (y ∷ xs) x (own, each) e = by (p y) e (find_each P p xs x each)
   where
@@ -105,14 +105,14 @@ map_none f None e = refl
 map_none f (Some a) e = absurd (some_none (f a) e)
 
 module _ (all : List ℕ) where
-  abbrev Among : List ℕ → Type 0
+  abbrev pub Among : List ℕ → Type 0
   Among = AllByRecursion (λ t. is_in all t ≡ true)
 
   -- the lists of so many numbers that begin with one of these
   abbrev begun : ℕ → List ℕ → List (List ℕ)
   begun n tos = flat_map (λ first. map (λ others. first ∷ others) (lists_of n all)) tos
 
-  lists_are : (n : ℕ) → AllByRecursion (λ list. (length list ≡ n) × Among list) (lists_of n all)
+  pub lists_are : (n : ℕ) → AllByRecursion (λ list. (length list ≡ n) × Among list) (lists_of n all)
   lists_are zero = ((refl, tt), tt)
   lists_are (suc n) =
       each_flat_map (λ list. (length list ≡ suc n) × Among list) (λ t. is_in all t ≡ true) (λ first. map (λ others. first ∷ others) (lists_of n all))
@@ -135,7 +135,7 @@ module _ (all : List ℕ) where
           ∙ fewer (λ others. p (t ∷ others)) (map_none (λ others. t ∷ others) (find (λ others. p (t ∷ others)) (lists_of n all)) (sym (find_map p (λ others. t ∷ others) (lists_of n all)) ∙ parts.0))
       by false is there rest = rest there
 
-  none_passes : (n : ℕ) (p : List ℕ → Bool) → find p (lists_of n all) ≡ None → (other : List ℕ) → length other ≡ n → Among other → p other ≡ false
+  pub none_passes : (n : ℕ) (p : List ℕ → Bool) → find p (lists_of n all) ≡ None → (other : List ℕ) → length other ≡ n → Among other → p other ≡ false
   none_passes zero p e [] long among = by (p []) [] e
     where
       by : (b : Bool) (own : List ℕ) → cond b (Some own) None ≡ None → b ≡ false
@@ -175,7 +175,7 @@ module _ (all : List ℕ) where
       by None is e false at there rest = rest e there
 
   module _ (up : Ascends all) where
-    first_passes : (n : ℕ) (p : List ℕ → Bool) (found : List ℕ) → find p (lists_of n all) ≡ Some found → (other : List ℕ) → length other ≡ n → Among other → p other ≡ true
+    pub first_passes : (n : ℕ) (p : List ℕ → Bool) (found : List ℕ) → find p (lists_of n all) ≡ Some found → (other : List ℕ) → length other ≡ n → Among other → p other ≡ true
         → is_le (slice_cmp nat_cmp found other) ≡ true
     first_passes zero p found e [] long among passes = by (p []) [] refl e
       where
@@ -199,7 +199,7 @@ pub record IsFirstLength (p : List ℕ → Bool) (all : List ℕ) (count : ℕ) 
   pub before : (m : ℕ) → count < m → m < n → find p (lists_of m all) ≡ None
 
 module _ (is_before : ℕ → ℕ → Bool) (all : List ℕ) (p : List ℕ → Bool) where
-  first_length : (more count : ℕ) (found : List ℕ) → find p (flat_map (λ n. lists_of n all) (next_numbers more count)) ≡ Some found
+  pub first_length : (more count : ℕ) (found : List ℕ) → find p (flat_map (λ n. lists_of n all) (next_numbers more count)) ≡ Some found
       → (n : ℕ) × IsFirstLength p all count found n
   first_length zero count found e = absurd (none-some found e)
   first_length (suc more) count found e =

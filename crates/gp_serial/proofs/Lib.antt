@@ -9,9 +9,12 @@ pub mod FittingReplays
 pub mod FittingStatements
 pub mod GraphLemmas
 pub mod GrowingLogs
+pub mod InsertLemmas
 pub mod LeastLemmas
 pub mod LookLemmas
 pub mod OrderLemmas
+pub mod PairLemmas
+pub mod PathLemmas
 pub mod PrecedenceLemmas
 pub mod ReasonLemmas
 pub mod RefusalLemmas

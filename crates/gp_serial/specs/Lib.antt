@@ -6,6 +6,8 @@ pub mod Graphs
 pub mod LeastCycles
 pub mod LookViews
 pub mod Meetings
+pub mod PairCycles
+pub mod PathForms
 pub mod Preceding
 pub mod Reasons
 pub mod Relations

@@ -3,8 +3,9 @@
 //! In reading order: [`changes_of`] gives a [`RowChange`] for each row that a commit wrote. [`looks_of`] gives the [`Look`]s of a statement: the rows
 //! that it reads, by a table, conditions and columns. Both together say which transactions come before which others: [`precedence`] is the [`Graph`]
 //! of that, and [`reason_of`] why one comes before another one. [`order_of`] is the order of the transactions that keeps it, and [`least_cycle`]
-//! the first of the shortest cycles where there is none. [`serial_log`] is the log in which they run in an order, and [`serialize`] answers: it
-//! makes the commits of that log again, and compares what each statement does with what it did.
+//! the first of the shortest cycles where there is none; [`pair_cycles`] finds such a cycle for each pair that goes back. [`serial_log`] is the log
+//! in which they run in an order, and [`serialize`] answers: it makes the commits of that log again, and compares what each statement does with
+//! what it did.
 //!
 //! In `specs/`, `Graphs` says what an order and the least cycle of a relation are, and `Serializing` what the answer is. What statements look
 //! at, what comes before what, and what the transactions do one after another is said by the history machine (gp_machine: `Looks`,
@@ -29,6 +30,7 @@ mod log;
 mod looks;
 mod meeting;
 mod order;
+mod pair_cycle;
 mod reason;
 mod relation;
 mod running;
@@ -43,6 +45,7 @@ pub use log::serial_log;
 pub use looks::{Look, looks_of};
 pub use meeting::meets;
 pub use order::order_of;
+pub use pair_cycle::{Cycle, pair_cycles};
 pub use reason::{Reason, reason_of};
 pub use relation::precedence;
 pub use serializing::{Serial, Step, serialize};
