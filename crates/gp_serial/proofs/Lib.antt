@@ -12,6 +12,7 @@ pub mod GrowingLogs
 pub mod InsertLemmas
 pub mod LeastLemmas
 pub mod LookLemmas
+pub mod NameLemmas
 pub mod OrderLemmas
 pub mod PairLemmas
 pub mod PathLemmas

@@ -2,7 +2,6 @@
 use Rattle.gp_serial.proofs.Prelude.{◌≡◌, ◌≢◌, ◌<◌, ◌≤◌, ◌+◌, ℕ, zero, suc, Bool, true, false, cond, List, [], ◌∷◌, ◌++◌, map, Option, Some, None, refl, sym, ap, ◌∙◌, subst, arith, add-one, ⊎_elim, ◌==◌, ◌&&◌, filter, nat_lt, slice_get, flat_map, list_any, option_map, option_map_or, option_or, cases_lt, append-nil, append_assoc, Table, eq_not, map-map, Entry, committer_of, statement_at, statement_count, statement_version, Look, looks, Reason, ReadAfter, ReadBefore, Wrote, changes_by, meets, numbers, read_after, read_before, reasons, same_row, wrote_before, RowChange}
 use Rattle.std.proofs.lemmas.Grind.{flat_map-append}
 use Rattle.gp_base.proofs.SmallLemmas.{filter-map, flat_map_agree, map-flat_map, map_agree}
-use Rattle.gp_machine.specs.Precedence as m
 use Rattle.gp_serial.specs.declared.changes.RowChange as code
 use Rattle.gp_serial.specs.Changes.{AreMade, change_view}
 use Rattle.gp_serial.specs.Reasons.{first_looked, first_of, first_reading, first_write, is_looked, is_on_side, is_rewrite, looked, paired, readings, rewrites}
@@ -131,14 +130,14 @@ module _ (tables : List Table) (entries : List Entry) where
   -- ---- rows
 
   module _ (a b : ℕ) (all : List code.RowChange) (made_all : AreMade entries all) where
-    abbrev shown : List RowChange
+    abbrev pub shown : List RowChange
     shown = map change_view all
 
     -- the later changes of a row by the other one
-    abbrev later : RowChange → List RowChange
+    abbrev pub later : RowChange → List RowChange
     later change = filter (λ (other : RowChange). same_row change other && nat_lt change.version other.version) (changes_by tables entries shown b)
 
-    later_is : (change : code.RowChange) → later (change_view change) ≡ map change_view (rewrites change b all)
+    pub later_is : (change : code.RowChange) → later (change_view change) ≡ map change_view (rewrites change b all)
     later_is change =
         filter-filter (λ (other : RowChange). same_row (change_view change) other && nat_lt change.version other.version) (λ (other : RowChange). committer_of other.version entries == b) shown
         ∙ filter-map (λ (other : RowChange). (committer_of other.version entries == b) && (same_row (change_view change) other && nat_lt change.version other.version)) change_view all
@@ -151,7 +150,7 @@ module _ (tables : List Table) (entries : List Entry) where
         agree (other ∷ changes) (here, made) = λ i.
             cond ((sym here i == b) && (same_row (change_view change) (change_view other) && nat_lt change.version other.version)) (other ∷ agree changes made i) (agree changes made i)
 
-    wrote_first : (changes : List code.RowChange) → AreMade entries changes
+    pub wrote_first : (changes : List code.RowChange) → AreMade entries changes
         → first_of (flat_map (λ (change : RowChange). map (Wrote change) (later change)) (filter (λ (change : RowChange). committer_of change.version entries == a) (map change_view changes)))
         ≡ first_write a b all changes
     wrote_first [] made = refl

@@ -1,3 +1,4 @@
+pub mod Anomalies
 pub mod Changes
 pub mod Comparing
 pub mod CycleForms
@@ -6,6 +7,7 @@ pub mod Graphs
 pub mod LeastCycles
 pub mod LookViews
 pub mod Meetings
+pub mod NameForms
 pub mod PairCycles
 pub mod PathForms
 pub mod Preceding

@@ -29,6 +29,7 @@ mod laws;
 mod log;
 mod looks;
 mod meeting;
+mod naming;
 mod order;
 mod pair_cycle;
 mod reason;

@@ -114,7 +114,7 @@ fn first_looked<'a>(
 }
 
 /// The first statement of a transaction that looks at a change of another one, and the change.
-fn first_reading<'a>(
+pub(crate) fn first_reading<'a>(
     alloc: Global,
     log: &Log,
     reader: u32,
@@ -160,7 +160,7 @@ fn first_rewrite<'a>(
 }
 
 /// The rewrite of a change of transaction a; no other change has one.
-fn rewrite_by<'a>(
+pub(crate) fn rewrite_by<'a>(
     change: &RowChange<'_>,
     a: u32,
     b: u32,
@@ -176,7 +176,7 @@ fn rewrite_by<'a>(
 }
 
 /// The first row that a transaction wrote before another one.
-fn first_write<'a>(a: u32, b: u32, changes: &[RowChange<'a>]) -> Option<Reason<'a>>
+pub(crate) fn first_write<'a>(a: u32, b: u32, changes: &[RowChange<'a>]) -> Option<Reason<'a>>
     ensures { r.IsFirstWrite a b changes.now (option_map reason_view result) }
 {
     for change in changes {
