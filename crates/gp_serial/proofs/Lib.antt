@@ -14,6 +14,7 @@ pub mod LeastLemmas
 pub mod LookLemmas
 pub mod NameLemmas
 pub mod OrderLemmas
+pub mod PairLawLemmas
 pub mod PairLemmas
 pub mod PathLemmas
 pub mod PrecedenceLemmas

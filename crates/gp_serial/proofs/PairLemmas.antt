@@ -327,7 +327,7 @@ module _ (is_before : ℕ → ℕ → Bool) (all : List ℕ) where
 
   -- ---- all lists, by length
 
-  lists_up_are : AllByRecursion (λ list. (length list ≤ length all) × Among all list) (lists_up all)
+  pub lists_up_are : AllByRecursion (λ list. (length list ≤ length all) × Among all list) (lists_up all)
   lists_up_are =
       subst (λ lengths. AllByRecursion (λ list. (length list ≤ length all) × Among all list) (flat_map (λ n. lists_of n all) lengths)) (sym (numbers_next (length all)))
       (by (length all) 0 (let same : length all + 0 ≤ length all = omega arith in same))
@@ -343,7 +343,7 @@ module _ (is_before : ℕ → ℕ → Bool) (all : List ℕ) where
           each_append (λ list. (length list ≤ length all) × Among all list) (lists_of (suc count) all) (flat_map (λ n. lists_of n all) (next_numbers more (suc count)))
           (each (suc count) (omega (arith, low)) (lists_of (suc count) all) (lists_are all (suc count))) (by more (suc count) (omega (arith, low)))
 
-  none_of_length : (p : List ℕ → Bool) (more count : ℕ) → find p (flat_map (λ n. lists_of n all) (next_numbers more count)) ≡ None
+  pub none_of_length : (p : List ℕ → Bool) (more count : ℕ) → find p (flat_map (λ n. lists_of n all) (next_numbers more count)) ≡ None
       → (n : ℕ) → count < n → n ≤ more + count → find p (lists_of n all) ≡ None
   none_of_length p zero count e n low high = absurd (omega (arith, low, high))
   none_of_length p (suc more) count e n low high =

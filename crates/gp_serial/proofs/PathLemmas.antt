@@ -17,7 +17,7 @@ filter_each P p (x ∷ xs) (own, each) = by (p x) refl (filter_each P p xs each)
     by true is rest = ((own, is), rest)
     by false is rest = rest
 
-filter_in : (p : ℕ → Bool) (t : ℕ) → p t ≡ true → (xs : List ℕ) → is_in xs t ≡ true → is_in (filter p xs) t ≡ true
+pub filter_in : (p : ℕ → Bool) (t : ℕ) → p t ≡ true → (xs : List ℕ) → is_in xs t ≡ true → is_in (filter p xs) t ≡ true
 filter_in p t passes [] inside = inside
 filter_in p t passes (x ∷ xs) inside = by (p x) refl (or_cases (x == t) (is_in xs t) inside) (filter_in p t passes xs)
   where

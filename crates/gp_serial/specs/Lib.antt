@@ -9,6 +9,7 @@ pub mod LookViews
 pub mod Meetings
 pub mod NameForms
 pub mod PairCycles
+pub mod PairLaws
 pub mod PathForms
 pub mod Preceding
 pub mod Reasons
