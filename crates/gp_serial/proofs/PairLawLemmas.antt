@@ -1,22 +1,22 @@
 -- The cycles of pairs are what they are called.
-use Rattle.gp_serial.proofs.Prelude.{◌≡◌, ◌+◌, ◌<◌, ◌≤◌, ℕ, zero, suc, Bool, true, false, List, [], ◌∷◌, ◌++◌, length, filter, find, Option, Some, None, refl, sym, ap, ◌∙◌, subst, arith, inl, inr, ◌&&◌, ◌||◌, ◌==◌, if◌then◌else◌, AllByRecursion, eqb-true, list_any-append, Contains, flat_map, list_any, slice_cmp, option_map_or, ordering_then, Less, Equal, Greater, and_parts, cases_lt, false≢true, each_append}
+use Rattle.gp_serial.proofs.Prelude.{◌≡◌, cases_eq, none-some, same_Some, slice_get, some_none, unwrap_or, ◌<◌, ◌≤◌, ℕ, Bool, true, false, List, [], ◌∷◌, ◌++◌, length, filter, find, Option, Some, None, refl, sym, ap, ◌∙◌, subst, arith, inl, inr, ◌||◌, ◌==◌, if◌then◌else◌, AllByRecursion, eqb-true, list_any-append, flat_map, list_any, slice_cmp, option_map_or, ordering_then, Less, Equal, Greater, and_parts, cases_lt, false≢true, each_append}
 use Rattle.std.proofs.Common.{◌⊎◌}
 use Rattle.std.specs.BTreeSet.{insert_key}
 use Rattle.std.specs.Cmp.{IsTotalOrder}
 use Rattle.std.specs.List.{AllPairs}
 use Rattle.std.specs.List.Sorted.{IsStrictlySortedBy}
-use Rattle.std.specs.Ordering.{is_le, match_ordering, nat_cmp, ordering_reverse}
+use Rattle.std.specs.Ordering.{is_eq, is_le, match_ordering, nat_cmp, ordering_reverse}
 use Rattle.std.specs.declared.cmp.Ordering.{Ordering}
 use Rattle.std.proofs.lemmas.Bool.{and_from, or_cases, or_left, or_right}
-use Rattle.std.proofs.lemmas.Cmp.{nat_cmp_total, nat_list_cmp_total, on_total, then_total}
+use Rattle.std.proofs.lemmas.Cmp.{nat_cmp_total, nat_list_cmp_total, on_total, then_total, tied_itself}
 use Rattle.std.proofs.lemmas.Map.Lookups.{exact_bytes}
-use Rattle.gp_serial.specs.Graphs.{is_cycle, lists_of}
-use Rattle.gp_serial.specs.LeastCycles.{IsCycleOf}
-use Rattle.gp_serial.specs.PairCycles.{cycle_cmp, cycle_through, cycles_back, goes_through, has_pair, inserted, pair_cycles}
-use Rattle.gp_serial.specs.PairLaws.{ArePairCycles, IsFirstThrough, IsOfPair, IsThrough}
+use Rattle.gp_serial.specs.Graphs.{is_cycle, least_cycle, lists_of}
+use Rattle.gp_serial.specs.LeastCycles.{IsCycleOf, IsLeastCycle}
+use Rattle.gp_serial.specs.PairCycles.{cycle_cmp, cycle_through, cycles_back, goes_through, has_pair, inserted, lists_up, pair_cycles}
+use Rattle.gp_serial.specs.PairLaws.{ArePairCycles, GoesBackIn, IsFirstThrough, IsOfPair, IsThrough}
 use Rattle.gp_serial.proofs.CycleLemmas.{next_numbers, numbers_next}
-use Rattle.gp_serial.proofs.LeastLemmas.{Among, Ascends, IsFirstLength, ascends, each_from, each_in, find_each, find_passes, first_length, first_passes, from_in, in_from, is_in, itself_in, lists_are, none_passes}
-use Rattle.gp_serial.proofs.PairLemmas.{none_of_length}
+use Rattle.gp_serial.proofs.LeastLemmas.{Among, Ascends, ascends, cmp_equal, cmp_less, least_is, each_from, each_in, find_each, find_passes, first_length, first_passes, from_in, in_from, is_in, itself_in, lists_are, none_passes}
+use Rattle.gp_serial.proofs.PairLemmas.{lists_up_are, none_of_length}
 use Rattle.gp_serial.proofs.PathLemmas.{filter_each, filter_in}
 
 -- ---- an ordered set
@@ -196,3 +196,105 @@ pairs_are is_before goes_back all up = record {
       all (in_from all a a-there));
   order = sorted_inserted (flat_map (cycles_back is_before all goes_back) all) [] tt;
 }
+
+-- ---- the first of them
+
+find_narrow : {A : Type 0} (p q : A → Bool) → ((x : A) → q x ≡ true → p x ≡ true) → (xs : List A) (x : A) → find p xs ≡ Some x → q x ≡ true → find q xs ≡ Some x
+find_narrow p q narrow [] x is own = absurd (none-some x is)
+find_narrow {A} p q narrow (y ∷ xs) x is own = by (p y) (q y) refl refl is (find_narrow p q narrow xs x)
+  where
+    by : (b c : Bool) → p y ≡ b → q y ≡ c → (if b then Some y else find p xs) ≡ Some x → (find p xs ≡ Some x → q x ≡ true → find q xs ≡ Some x)
+        → (if c then Some y else find q xs) ≡ Some x
+    by true true one two is rest = is
+    by true false one two is rest = absurd (false≢true (sym two ∙ ap q (same_Some y x is) ∙ own))
+    by false true one two is rest = absurd (false≢true (sym one ∙ narrow y two))
+    by false false one two is rest = rest is own
+
+find_none : {A : Type 0} (p q : A → Bool) → ((x : A) → q x ≡ true → p x ≡ true) → (xs : List A) → find p xs ≡ None → find q xs ≡ None
+find_none p q narrow [] is = refl
+find_none {A} p q narrow (y ∷ xs) is = by (p y) (q y) refl refl is (find_none p q narrow xs)
+  where
+    by : (b c : Bool) → p y ≡ b → q y ≡ c → (if b then Some y else find p xs) ≡ None → (find p xs ≡ None → find q xs ≡ None) → (if c then Some y else find q xs) ≡ None
+    by true c one two is rest = absurd (some_none y is)
+    by false true one two is rest = absurd (false≢true (sym one ∙ narrow y two))
+    by false false one two is rest = rest is
+
+-- of an ordered list that has it, one that comes behind none of them is the first
+first_least : (cycle : List ℕ) (cycles : List (List ℕ)) → IsStrictlySortedBy cycle_cmp cycles → AllByRecursion (λ other. is_le (cycle_cmp cycle other) ≡ true) cycles
+    → list_any (λ other. is_eq (cycle_cmp cycle other)) cycles ≡ true → slice_get cycles 0 ≡ Some cycle
+unfolding IsStrictlySortedBy
+first_least cycle [] up each there = absurd (false≢true there)
+first_least cycle (other ∷ cycles) (above, up) (le, each) there = by (cycle_cmp cycle other) refl le
+  where
+    later : (list : List (List ℕ)) → AllByRecursion (λ more. cycle_cmp other more ≡ Less) list → cycle_cmp cycle other ≡ Less → list_any (λ more. is_eq (cycle_cmp cycle more)) list ≡ false
+    later [] each less = refl
+    later (more ∷ list) (own, each) less = λ i. is_eq (cycle_total.trans cycle other more less own i) || later list each less i
+
+    by : (o : Ordering) → cycle_cmp cycle other ≡ o → is_le o ≡ true → Some other ≡ Some cycle
+    by Less is le = absurd (false≢true (sym (λ i. is_eq (is i) || later cycles above is i) ∙ there))
+    by Equal is le = ap Some (sym (exact_bytes cycle other (second_equal (nat_cmp (length cycle) (length other)) (slice_cmp nat_cmp cycle other) is)))
+    by Greater is le = absurd (false≢true le)
+
+each_le : (is_before goes_back : ℕ → ℕ → Bool) (all cycle : List ℕ) → IsLeastCycle is_before all cycle → (cycles : List (List ℕ)) → AllByRecursion (IsOfPair is_before all goes_back) cycles
+    → AllByRecursion (λ other. is_le (cycle_cmp cycle other) ≡ true) cycles
+each_le is_before goes_back all cycle least [] each = tt
+each_le is_before goes_back all cycle least (other ∷ cycles) (own, each) = (
+  elim (cases_eq (length cycle) (length other)) [
+    | inl same ↦
+        ap (λ o. is_le (ordering_then o (slice_cmp nat_cmp cycle other))) (cmp_equal (length cycle) (length other) same) ∙ least.first other own.first.through.own (sym same)
+    | inr differ ↦
+        (let low = least.shortest other own.first.through.own in
+        ap (λ o. is_le (ordering_then o (slice_cmp nat_cmp cycle other))) (cmp_less (length cycle) (length other) (omega (arith, low, differ))))
+  ],
+  each_le is_before goes_back all cycle least cycles each,
+)
+
+module _ (is_before goes_back : ℕ → ℕ → Bool) (all : List ℕ) (up : AllPairs (λ a b. a < b) all) (back : (other : List ℕ) → IsCycleOf is_before all other → GoesBackIn goes_back all other) where
+  narrow : (a b : ℕ) (list : List ℕ) → goes_through is_before all a b list ≡ true → is_cycle is_before list ≡ true
+  narrow a b list own = (and_parts (is_cycle is_before list) (has_pair a b list) own).0
+
+  -- where there is none at all
+  none_back : find (is_cycle is_before) (lists_up all) ≡ None → (list : List ℕ) → flat_map (cycles_back is_before all goes_back) list ≡ []
+  none_back none [] = refl
+  none_back none (a ∷ list) = λ i. each (filter (goes_back a) all) i ++ none_back none list i
+    where
+      each : (bs : List ℕ) → flat_map (λ b. option_map_or (λ (cycle : List ℕ). cycle ∷ []) (cycle_through is_before all a b) []) bs ≡ []
+      each [] = refl
+      each (b ∷ bs) =
+          λ i. option_map_or (λ (cycle : List ℕ). cycle ∷ []) (find_none (is_cycle is_before) (goes_through is_before all a b) (narrow a b) (lists_up all) none i) [] ++ each bs i
+
+  first_some : (cycle : List ℕ) → find (is_cycle is_before) (lists_up all) ≡ Some cycle → slice_get (pair_cycles is_before all goes_back) 0 ≡ Some cycle
+  first_some cycle is =
+      let closes = find_passes (is_cycle is_before) (lists_up all) cycle is in
+      let among = (find_each (λ list. (length list ≤ length all) × Among all list) (is_cycle is_before) (lists_up all) cycle (lists_up_are is_before all) is).1 in
+      let of : IsCycleOf is_before all cycle = record { closes = closes; among = λ t there. from_in all t (each_in (λ n. is_in all n ≡ true) cycle among t there) } in
+      let pair = back cycle of in
+      let a : ℕ = pair.a in
+      let b : ℕ = pair.b in
+      let through : cycle_through is_before all a b ≡ Some cycle =
+      find_narrow (is_cycle is_before) (goes_through is_before all a b) (narrow a b) (lists_up all) cycle is (and_from (is_cycle is_before cycle) (has_pair a b cycle) closes pair.pair) in
+      let same : list_any (λ other. is_eq (cycle_cmp cycle other)) (cycle ∷ []) ≡ true = or_left (is_eq (cycle_cmp cycle cycle)) false (ap is_eq (tied_itself cycle_total cycle)) in
+      first_least cycle (pair_cycles is_before all goes_back) (pairs_are is_before goes_back all up).order
+      (each_le is_before goes_back all cycle (least cycle is) (pair_cycles is_before all goes_back) (pairs_are is_before goes_back all up).each)
+      (any_inserted (λ other. is_eq (cycle_cmp cycle other)) (flat_map (cycles_back is_before all goes_back) all) []
+      (any_mapped (λ other. is_eq (cycle_cmp cycle other)) (cycles_back is_before all goes_back) a
+      (any_mapped (λ other. is_eq (cycle_cmp cycle other)) (λ n. option_map_or (λ (list : List ℕ). list ∷ []) (cycle_through is_before all a n) []) b
+      (ap (λ (found : Option (List ℕ)). list_any (λ other. is_eq (cycle_cmp cycle other)) (option_map_or (λ (list : List ℕ). list ∷ []) found [])) through ∙ same)
+      (filter (goes_back a) all) (filter_in (goes_back a) b pair.back all (in_from all b pair.b-among)))
+      all (in_from all a pair.a-among)))
+    where
+      least : (cycle : List ℕ) → find (is_cycle is_before) (lists_up all) ≡ Some cycle → IsLeastCycle is_before all cycle
+      least cycle is =
+          subst (IsLeastCycle is_before all) (ap (λ (found : Option (List ℕ)). unwrap_or found []) is)
+          (least_is is_before all up (λ none. filled cycle (find_passes (is_cycle is_before) (lists_up all) cycle is) (sym (ap (λ (found : Option (List ℕ)). unwrap_or found []) is) ∙ none)))
+        where
+          filled : (list : List ℕ) → is_cycle is_before list ≡ true → list ≡ [] → ⊥
+          filled list closes none = false≢true (ap (is_cycle is_before) (sym none) ∙ closes)
+
+  -- the first one is the least cycle, and there is none where there is none
+  pub least_first : least_cycle is_before all ≡ unwrap_or (slice_get (pair_cycles is_before all goes_back) 0) []
+  least_first = by (find (is_cycle is_before) (lists_up all)) refl
+    where
+      by : (found : Option (List ℕ)) → find (is_cycle is_before) (lists_up all) ≡ found → unwrap_or found [] ≡ unwrap_or (slice_get (pair_cycles is_before all goes_back) 0) []
+      by None is = ap (λ list. unwrap_or (slice_get (inserted [] list) 0) []) (sym (none_back is all))
+      by (Some cycle) is = ap (λ (found : Option (List ℕ)). unwrap_or found []) (sym (first_some cycle is))

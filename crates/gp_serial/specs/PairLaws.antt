@@ -33,3 +33,12 @@ pub record ArePairCycles (is_before : ℕ → ℕ → Bool) (all : List ℕ) (go
       → list_any (has_pair a b) cycles ≡ true
   -- each occurs once, by length and then in order
   pub order : IsStrictlySortedBy cycle_cmp cycles
+
+-- a pair of these numbers that goes back stands in a cycle
+pub record GoesBackIn (goes_back : ℕ → ℕ → Bool) (all cycle : List ℕ) : Type 0 where
+  pub a : ℕ
+  pub b : ℕ
+  pub a-among : Contains all a
+  pub b-among : Contains all b
+  pub back : goes_back a b ≡ true
+  pub pair : has_pair a b cycle ≡ true

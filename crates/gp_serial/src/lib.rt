@@ -41,7 +41,7 @@ pub use changes::{RowChange, changes_of};
 pub use cycle::least_cycle;
 pub use error::SerialStop;
 pub use graph::Graph;
-pub use laws::{least_cycles_are_shortest, pair_cycles_are_first};
+pub use laws::{first_pair_cycles_are_least, least_cycles_are_shortest, pair_cycles_are_first};
 pub use log::serial_log;
 pub use looks::{Look, looks_of};
 pub use meeting::meets;
