@@ -1,6 +1,7 @@
--- Relations that agree on some numbers have the same orders and the same least cycle of them.
+-- Relations that agree on some numbers have the same orders, the same least cycle and the same cycles of pairs of them.
 use Rattle.gp_serial.proofs.Prelude.{◌≡◌, ℕ, zero, suc, Bool, true, false, cond, List, [], ◌∷◌, ◌++◌, map, length, Option, Some, None, refl, ap, ◌∙◌, ◌==◌, ◌&&◌, ◌||◌, filter, find, not, unwrap_or, AllByRecursion, flat_map, list_any, option_map_or, numbers}
 use Rattle.gp_serial.specs.Graphs.{closes, is_cycle, is_free, least_cycle, lists_of, ordered}
+use Rattle.gp_serial.specs.PairCycles.{cycle_through, cycles_back, goes_through, has_pair, inserted, lists_up, pair_cycles}
 
 each_filter : {A : Type 0} (P : A → Type 0) (p : A → Bool) (xs : List A) → AllByRecursion P xs → AllByRecursion P (filter p xs)
 each_filter P p [] all = tt
@@ -66,3 +67,31 @@ module _ (f g : ℕ → ℕ → Bool) (P : ℕ → Type 0) (agree : (a b : ℕ) 
   least_agree all each =
       ap (λ (found : Option (List ℕ)). unwrap_or found [])
       (find_agree (AllByRecursion P) (is_cycle f) (is_cycle g) cycle_agree (flat_map (λ n. lists_of n all) (numbers (length all))) (all_lists_in (numbers (length all)) all each))
+
+  -- ---- the cycles of pairs
+
+  through_agree : (a b : ℕ) (all : List ℕ) → AllByRecursion P all → cycle_through f all a b ≡ cycle_through g all a b
+  through_agree a b all each =
+      find_agree (AllByRecursion P) (goes_through f all a b) (goes_through g all a b) (λ list is. ap (λ cycle. cycle && has_pair a b list) (cycle_agree list is)) (lists_up all)
+      (all_lists_in (numbers (length all)) all each)
+
+  module _ (back other : ℕ → ℕ → Bool) (same : (a b : ℕ) → P a → P b → back a b ≡ other a b) (all : List ℕ) (each : AllByRecursion P all) where
+    filter_agree : (a : ℕ) → P a → (bs : List ℕ) → AllByRecursion P bs → filter (back a) bs ≡ filter (other a) bs
+    filter_agree a is [] own = refl
+    filter_agree a is (b ∷ bs) (first, own) = λ i. cond (same a b is first i) (b ∷ filter_agree a is bs own i) (filter_agree a is bs own i)
+
+    told_agree : (a : ℕ) (bs : List ℕ) → flat_map (λ b. option_map_or (λ (cycle : List ℕ). cycle ∷ []) (cycle_through f all a b) []) bs
+        ≡ flat_map (λ b. option_map_or (λ (cycle : List ℕ). cycle ∷ []) (cycle_through g all a b) []) bs
+    told_agree a [] = refl
+    told_agree a (b ∷ bs) = λ i. option_map_or (λ (cycle : List ℕ). cycle ∷ []) (through_agree a b all each i) [] ++ told_agree a bs i
+
+    backs_agree : (list : List ℕ) → AllByRecursion P list → flat_map (cycles_back f all back) list ≡ flat_map (cycles_back g all other) list
+    backs_agree [] own = refl
+    backs_agree (a ∷ list) (is, own) = λ i. own-back i ++ backs_agree list own i
+      where
+        own-back : cycles_back f all back a ≡ cycles_back g all other a
+        own-back =
+            ap (flat_map (λ b. option_map_or (λ (cycle : List ℕ). cycle ∷ []) (cycle_through f all a b) [])) (filter_agree a is all each) ∙ told_agree a (filter (other a) all)
+
+    pub pairs_agree : pair_cycles f all back ≡ pair_cycles g all other
+    pairs_agree = ap (inserted []) (backs_agree all each)
