@@ -1,5 +1,8 @@
 pub mod Prelude
 pub mod AgreeLemmas
+pub mod AnomalyAnswering
+pub mod AnomalyLawLemmas
+pub mod AnomalyLemmas
 pub mod Anys
 pub mod ComparableLogs
 pub mod ComparingLemmas
@@ -21,6 +24,7 @@ pub mod PrecedenceLemmas
 pub mod ReasonLemmas
 pub mod RefusalLemmas
 pub mod RelationLemmas
+pub mod Repetitions
 pub mod RowLemmas
 pub mod RunningLemmas
 mod SerialAnswering

@@ -1,16 +1,18 @@
 -- What the changes of two transactions say of them: steps that hold by a read alone, and lost updates.
-use Rattle.gp_serial.proofs.Prelude.{◌≡◌, ◌≢◌, ◌<◌, ◌+◌, drop, drop_more, get_or, ℕ, suc, Bool, true, false, cond, List, [], ◌∷◌, ◌++◌, length, map, Option, Some, None, is_none, refl, sym, ap, ◌∙◌, subst, arith, ◌==◌, ◌&&◌, ◌||◌, not, filter, nat_lt, slice_get, flat_map, list_any, option_map, option_or, if◌then◌else◌, append-nil, Table, Entry, committer_of, statement_count, Reason, ReadAfter, ReadBefore, Wrote, changes_by, numbers, read_after, read_before, reasons, same_row, wrote_before, RowChange, eqb-true, ne_eqb, false≢true}
-use Rattle.std.specs.Prelude.{is_some}
+use Rattle.gp_serial.proofs.Prelude.{◌≡◌, ◌≢◌, ◌<◌, ◌+◌, drop, drop_more, get_or, ℕ, suc, Bool, true, false, cond, List, [], ◌∷◌, ◌++◌, length, map, Option, Some, None, is_none, refl, sym, ap, ◌∙◌, subst, arith, ◌==◌, ◌&&◌, ◌||◌, not, filter, nat_lt, slice_get, flat_map, list_any, option_map, option_or, if◌then◌else◌, append-nil, eq_itself, length-map, Table, Entry, committer_of, statement_count, Reason, ReadAfter, ReadBefore, Wrote, changes_by, numbers, read_after, read_before, reasons, same_row, wrote_before, RowChange, eqb-true, ne_eqb, false≢true}
+use Rattle.std.specs.Prelude.{is_some, Vec}
+use Rattle.std.specs.declared.alloc.Global.{Global}
 use Rattle.gp_machine.specs.Precedence.{looked_at}
 use Rattle.gp_machine.specs.Entries.{statement_version}
 use Rattle.std.specs.Option.{option_and_then}
 use Rattle.std.proofs.lemmas.Grind.{flat_map-append}
 use Rattle.std.proofs.lemmas.List.Elements.{filter-append}
 use Rattle.gp_base.proofs.SmallLemmas.{filter-map, flat_map_agree}
-use Rattle.gp_serial.specs.Anomalies.{is_empty, lost, only_read, reads_row, reads_written, unseen}
+use Rattle.gp_serial.specs.Anomalies.{facts, is_empty, lost, only_read, reads_row, reads_written, unseen}
 use Rattle.gp_serial.specs.Changes.{AreMade, change_view}
-use Rattle.gp_serial.specs.NameForms.{first_lost, is_by, is_of_row, lost_by, lost_with, of_both, unseen_read}
+use Rattle.gp_serial.specs.NameForms.{AreAllMade, changes_at, either, facts_of, first_lost, is_by, is_of_row, lost_by, lost_with, of_both, unseen_read}
 use Rattle.gp_serial.specs.Reasons.{first_of, first_reading, first_write, is_on_side, looked, readings, rewrites}
+use Rattle.gp_serial.specs.Serializing.{step_of}
 use Rattle.gp_serial.specs.declared.changes.RowChange as code
 use Rattle.gp_serial.proofs.ReasonLemmas.{first_append, later, later_is, reading_named, wrote_first}
 
@@ -245,8 +247,15 @@ made_append : (entries : List Entry) (xs ys : List code.RowChange) → AreMade e
 made_append entries [] ys one two = two
 made_append entries (x ∷ xs) ys (own, one) two = (own, made_append entries xs ys one two)
 
-pub made_both : (entries : List Entry) (a b : ℕ) (all : List code.RowChange) → AreMade entries all → AreMade entries (of_both all a b)
-made_both entries a b all made = made_append entries (filter (is_by a) all) (filter (is_by b) all) (made_filter entries (is_by a) all made) (made_filter entries (is_by b) all made)
+pub made_either : (entries : List Entry) (changes : ℕ → List code.RowChange) → ((t : ℕ) → AreMade entries (changes t)) → (a b : ℕ) → AreMade entries (either changes a b)
+made_either entries changes made a b = by (a == b)
+  where
+    by : (c : Bool) → AreMade entries (if c then changes a else changes a ++ changes b)
+    by true = made a
+    by false = made_append entries (changes a) (changes b) (made a) (made b)
+
+made_both : (entries : List Entry) (a b : ℕ) (all : List code.RowChange) → AreMade entries all → AreMade entries (of_both all a b)
+made_both entries a b all made = made_either entries (λ t. filter (is_by t) all) (λ t. made_filter entries (is_by t) all made) a b
 
 by_same : (t : ℕ) (changes : List code.RowChange) → filter (is_by t) (filter (is_by t) changes) ≡ filter (is_by t) changes
 by_same t [] = refl
@@ -277,26 +286,31 @@ module _ (tables : List Table) (entries : List Entry) where
       agree [] made = refl
       agree (change ∷ changes) (here, made) = λ i. cond (sym here i == t) (change ∷ agree changes made i) (agree changes made i)
 
-  module _ (a b : ℕ) (two : a ≢ b) (all : List code.RowChange) (made : AreMade entries all) where
+  module _ (a b : ℕ) (all : List code.RowChange) (made : AreMade entries all) where
     abbrev both : List RowChange
     both = map change_view (of_both all a b)
 
     abbrev every : List RowChange
     every = map change_view all
 
+    apart : (a == b) ≡ false → a ≢ b
+    apart other same = false≢true (sym other ∙ ap (λ u. a == u) (sym same) ∙ eq_itself a)
+
+    first_kept : (c : Bool) → (a == b) ≡ c → filter (is_by a) (if c then filter (is_by a) all else filter (is_by a) all ++ filter (is_by b) all) ≡ filter (is_by a) all
+    first_kept true same = by_same a all
+    first_kept false other =
+        filter-append (is_by a) (filter (is_by a) all) (filter (is_by b) all) ∙ (λ i. by_same a all i ++ by_other a b (apart other) all i) ∙ append-nil (filter (is_by a) all)
+
+    second_kept : (c : Bool) → (a == b) ≡ c → filter (is_by b) (if c then filter (is_by a) all else filter (is_by a) all ++ filter (is_by b) all) ≡ filter (is_by b) all
+    second_kept true same = ap (λ t. filter (is_by b) (filter (is_by t) all)) (eqb-true a b same) ∙ by_same b all
+    second_kept false other =
+        filter-append (is_by b) (filter (is_by a) all) (filter (is_by b) all) ∙ (λ i. by_other b a (λ same. apart other (sym same)) all i ++ by_same b all i)
+
     by_a : changes_by tables entries both a ≡ changes_by tables entries every a
-    by_a =
-        by_is a (of_both all a b) (made_both entries a b all made)
-        ∙ ap (map change_view) (filter-append (is_by a) (filter (is_by a) all) (filter (is_by b) all)
-        ∙ (λ i. by_same a all i ++ by_other a b two all i) ∙ append-nil (filter (is_by a) all))
-        ∙ sym (by_is a all made)
+    by_a = by_is a (of_both all a b) (made_both entries a b all made) ∙ ap (map change_view) (first_kept (a == b) refl) ∙ sym (by_is a all made)
 
     by_b-is : changes_by tables entries both b ≡ changes_by tables entries every b
-    by_b-is =
-        by_is b (of_both all a b) (made_both entries a b all made)
-        ∙ ap (map change_view) (filter-append (is_by b) (filter (is_by a) all) (filter (is_by b) all)
-        ∙ (λ i. by_other b a (λ same. two (sym same)) all i ++ by_same b all i))
-        ∙ sym (by_is b all made)
+    by_b-is = by_is b (of_both all a b) (made_both entries a b all made) ∙ ap (map change_view) (second_kept (a == b) refl) ∙ sym (by_is b all made)
 
     abbrev by_readings : (ℕ → RowChange → Reason) → ℕ → Bool → List RowChange → List Reason
     by_readings kind reader earlier list =
@@ -315,10 +329,10 @@ module _ (tables : List Table) (entries : List Entry) where
     wrote_is : wrote_before tables entries both a b ≡ wrote_before tables entries every a b
     wrote_is = λ i. by_writes (by_a i) (by_b-is i)
 
-    pub only_read_is : only_read tables entries both a b ≡ only_read tables entries every a b
+    only_read_is : only_read tables entries both a b ≡ only_read tables entries every a b
     only_read_is = λ i. is_empty (after_is i) && is_empty (wrote_is i)
 
-    pub reasons_is : reasons tables entries both a b ≡ reasons tables entries every a b
+    reasons_is : reasons tables entries both a b ≡ reasons tables entries every a b
     reasons_is = λ i. cond (a == b) [] (before_is i ++ (after_is i ++ wrote_is i))
 
     back_after : read_after tables entries both b a ≡ read_after tables entries every b a
@@ -327,6 +341,39 @@ module _ (tables : List Table) (entries : List Entry) where
     back_wrote : wrote_before tables entries both b a ≡ wrote_before tables entries every b a
     back_wrote = λ i. by_writes (by_b-is i) (by_a i)
 
-    pub lost_same : lost tables entries both a b ≡ lost tables entries every a b
+    lost_same : lost tables entries both a b ≡ lost tables entries every a b
     lost_same = λ i. flat_map (λ wrote. map (λ (read : Reason). (read, wrote)) (filter (reads_written wrote) (before_is i)))
         (filter (λ wrote. not (list_any (reads_written wrote) (back_after i))) (back_wrote i))
+
+  -- ---- the lists of each transaction
+
+  module _ (changes : List code.RowChange) (made : AreMade entries changes) (lists : List (Vec code.RowChange Global)) (whole : (t : ℕ) → changes_at lists t ≡ filter (is_by t) changes) where
+    abbrev every-change : List RowChange
+    every-change = map change_view changes
+
+    between : (a b : ℕ) → map change_view (either (changes_at lists) a b) ≡ map change_view (of_both changes a b)
+    between a b = λ i. map change_view (either (λ t. whole t i) a b)
+
+    pub lists_made : AreAllMade entries lists
+    lists_made t = subst (AreMade entries) (sym (whole t)) (made_filter entries (is_by t) changes made)
+
+    idle_is : (t : ℕ) → is_empty (changes_at lists t) ≡ is_empty (changes_by tables entries every-change t)
+    idle_is t = ap (λ n. n == 0) (ap length (whole t) ∙ sym (length-map (filter (is_by t) changes) change_view) ∙ ap length (sym (by_is t changes made)))
+
+    step_is : (a b : ℕ) → step_of tables entries (map change_view (either (changes_at lists) a b)) a b ≡ step_of tables entries every-change a b
+    step_is a b = ap (λ list. step_of tables entries list a b) (between a b) ∙ (λ i. record { first = a; next = b; reason = slice_get (reasons_is a b changes made i) 0 })
+
+    alone_is : (a b : ℕ) → only_read tables entries (map change_view (either (changes_at lists) a b)) a b ≡ only_read tables entries every-change a b
+    alone_is a b = ap (λ list. only_read tables entries list a b) (between a b) ∙ only_read_is a b changes made
+
+    update_is : (a b : ℕ) → slice_get (lost tables entries (map change_view (either (changes_at lists) a b)) a b) 0 ≡ slice_get (lost tables entries every-change a b) 0
+    update_is a b = ap (λ list. slice_get (lost tables entries list a b) 0) (between a b) ∙ ap (λ list. slice_get list 0) (lost_same a b changes made)
+
+    -- what the lists say is what all changes say
+    pub facts_are : facts_of tables entries lists ≡ facts tables entries every-change
+    facts_are = λ i. record {
+      step = λ a b. step_is a b i;
+      alone = λ a b. alone_is a b i;
+      update = λ a b. update_is a b i;
+      idle = λ t. idle_is t i;
+    }

@@ -35,7 +35,7 @@ at_front [] ys n l = absurd (omega (arith, l))
 at_front (x ∷ xs) ys zero l = refl
 at_front (x ∷ xs) ys (suc n) l = at_front xs ys n (omega (arith, l))
 
-numbers_at : (n u : ℕ) → u < n → get_or (numbers n) u 0 ≡ suc u
+pub numbers_at : (n u : ℕ) → u < n → get_or (numbers n) u 0 ≡ suc u
 numbers_at zero u l = absurd (omega (arith, l))
 numbers_at (suc n) u l =
     ⊎_elim

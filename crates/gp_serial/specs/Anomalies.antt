@@ -11,21 +11,31 @@ use Rattle.gp_machine.specs.Parameters.{Parameters}
 use Rattle.gp_machine.specs.Precedence.{ReadAfter, ReadBefore, Reason, Wrote, changes_by, is_before, read_after, read_before, same_row, wrote_before}
 use Rattle.gp_machine.specs.RowChanges.{RowChange}
 use Rattle.gp_versions.specs.declared.span.Span.{Span}
+use Rattle.gp_serial.specs.declared.anomaly.AnomalyName.{AnomalyName}
+use Rattle.gp_serial.specs.declared.anomaly.AnomalyName.TheVariants.{LostUpdate, ReadOnly, ReadSkew, WriteSkew}
 use Rattle.gp_serial.specs.PairCycles.{line_count, pairs_of, pair_cycles}
-use Rattle.gp_serial.specs.Serializing.{Step, by_number, runs_refusal, steps_of}
-
-pub data Name : Type 0 where
-  LostUpdate ReadSkew ReadOnly WriteSkew : Name
+use Rattle.gp_serial.specs.Serializing.{Step, by_number, runs_refusal, step_of}
 
 -- a cycle by its steps
 pub record Anomaly : Type 0 where
-  pub name : Name
+  pub name : AnomalyName
   pub phantom : Bool
   pub steps : List Step
 
 pub data Anomalies : Type 0 where
   Found : List Anomaly → Anomalies
   Refused : Refusal → Anomalies
+
+-- what is told of two transactions, and of one
+pub record Facts : Type 0 where
+  -- the step from one to the other
+  pub step : ℕ → ℕ → Step
+  -- whether one is before the other by nothing but what it read
+  pub alone : ℕ → ℕ → Bool
+  -- the update of the other that one lost: its read of a row, and both writes
+  pub update : ℕ → ℕ → Option (Reason × Reason)
+  -- whether a transaction wrote nothing
+  pub idle : ℕ → Bool
 
 abbrev pub is_empty : {A : Type 0} → List A → Bool
 is_empty list = length list == 0
@@ -53,6 +63,8 @@ abbrev pub reads_written : Reason → Reason → Bool
 reads_written (Wrote change other) reason = reads_row change reason
 reads_written wrote reason = false
 
+-- ---- two transactions
+
 module _ (tables : List Table) (entries : List Entry) (changes : List RowChange) where
   -- it is before one that made a lesser version
   abbrev pub goes_back : ℕ → ℕ → Bool
@@ -60,8 +72,6 @@ module _ (tables : List Table) (entries : List Entry) (changes : List RowChange)
 
   abbrev pub cycles : List (List ℕ)
   cycles = pair_cycles (is_before tables entries changes) (by_number entries) goes_back
-
-  -- ---- names
 
   -- of one that is before another: nothing holds but that it read what was before the other's commit
   abbrev pub only_read : ℕ → ℕ → Bool
@@ -75,44 +85,55 @@ module _ (tables : List Table) (entries : List Entry) (changes : List RowChange)
   abbrev pub lost : ℕ → ℕ → List (Reason × Reason)
   lost a b = flat_map (λ wrote. map (λ read. (read, wrote)) (filter (reads_written wrote) (read_before tables entries changes a b))) (unseen a b)
 
-  abbrev pub own_step : ℕ → ℕ → Reason → Step
-  own_step a b reason = record { first = a; next = b; reason = Some reason }
+  abbrev pub facts : Facts
+  facts = record {
+    step = step_of tables entries changes;
+    alone = only_read;
+    update = λ a b. slice_get (lost a b) 0;
+    idle = λ t. is_empty (changes_by tables entries changes t);
+  }
+
+-- ---- a cycle
+
+abbrev pub own_step : ℕ → ℕ → Reason → Step
+own_step a b reason = record { first = a; next = b; reason = Some reason }
+
+module _ (facts : Facts) where
+  abbrev pub steps_between : List (ℕ × ℕ) → List Step
+  steps_between = map (λ (pair : ℕ × ℕ). facts.step pair.0 pair.1)
 
   -- the steps of a lost update, by its first row
   abbrev pub lost_steps : List ℕ → Option (List Step)
   lost_steps (a ∷ b ∷ []) =
-      option_or (option_map (λ (two : Reason × Reason). own_step a b two.0 ∷ own_step b a two.1 ∷ []) (slice_get (lost a b) 0))
-      (option_map (λ (two : Reason × Reason). own_step a b two.1 ∷ own_step b a two.0 ∷ []) (slice_get (lost b a) 0))
+      option_or (option_map (λ (two : Reason × Reason). own_step a b two.0 ∷ own_step b a two.1 ∷ []) (facts.update a b))
+      (option_map (λ (two : Reason × Reason). own_step a b two.1 ∷ own_step b a two.0 ∷ []) (facts.update b a))
   lost_steps cycle = None
 
-  abbrev pub shown_steps : List ℕ → List Step
-  shown_steps cycle = option_map_or (λ (steps : List Step). steps) (lost_steps cycle) (steps_of tables entries changes cycle)
-
   -- how many steps hold by nothing but a read before a commit
-  abbrev pub reads_alone : List ℕ → ℕ
-  reads_alone cycle = length (filter (λ (pair : ℕ × ℕ). only_read pair.0 pair.1) (pairs_of cycle))
+  abbrev pub reads_alone : List (ℕ × ℕ) → ℕ
+  reads_alone pairs = length (filter (λ (pair : ℕ × ℕ). facts.alone pair.0 pair.1) pairs)
 
-  abbrev pub wrote_nothing : ℕ → Bool
-  wrote_nothing t = is_empty (changes_by tables entries changes t)
-
-  -- the first that fits
-  abbrev pub name_of : List ℕ → Name
+  -- the first name that fits, of a cycle that is no lost update
+  abbrev pub name_of : List ℕ → AnomalyName
   name_of cycle =
-      if is_some (lost_steps cycle) then LostUpdate
-      else if reads_alone cycle == 1 then ReadSkew
-      else if nat_lt 2 (length cycle) && list_any wrote_nothing cycle then ReadOnly
+      if reads_alone (pairs_of cycle) == 1 then ReadSkew
+      else if nat_lt 2 (length cycle) && list_any facts.idle cycle then ReadOnly
       else WriteSkew
 
   abbrev pub is_phantom : Step → Bool
-  is_phantom step = only_read step.first step.next && option_map_or reads_a_phantom step.reason false
+  is_phantom step = facts.alone step.first step.next && option_map_or reads_a_phantom step.reason false
+
+  abbrev pub by_steps : AnomalyName → List Step → Anomaly
+  by_steps name steps = record { name = name; phantom = list_any is_phantom steps; steps = steps }
 
   abbrev pub anomaly_of : List ℕ → Anomaly
-  anomaly_of cycle = record { name = name_of cycle; phantom = list_any is_phantom (shown_steps cycle); steps = shown_steps cycle }
+  anomaly_of cycle = option_map_or (by_steps LostUpdate) (lost_steps cycle) (by_steps (name_of cycle) (steps_between (pairs_of cycle)))
 
-  -- ---- all of them
+-- ---- all of them
 
+module _ (tables : List Table) (entries : List Entry) (changes : List RowChange) where
   abbrev pub found : Parameters → Anomalies
-  found parameters = if nat_lt parameters.answer (line_count cycles) then Refused E27 else Found (map anomaly_of cycles)
+  found parameters = if nat_lt parameters.answer (line_count (cycles tables entries changes)) then Refused E27 else Found (map (anomaly_of (facts tables entries changes)) (cycles tables entries changes))
 
   abbrev pub anomalies_of : Parameters → (ℕ → List Span) → Anomalies
   anomalies_of parameters spans = option_map_or Refused (runs_refusal parameters entries spans (versions_in entries)) (found parameters)

@@ -1,4 +1,6 @@
 pub mod Anomalies
+pub mod AnomalyLaws
+pub mod AnomalyViews
 pub mod Changes
 pub mod Comparing
 pub mod CycleForms

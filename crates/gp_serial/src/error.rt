@@ -7,7 +7,7 @@ use gp_base::{NoMemory, Refusal};
 /// Why there is no answer.
 #[derive(Drop)]
 pub enum SerialStop {
-    /// A transaction that committed does not run over the row versions: E25 or E26.
+    /// A transaction that committed does not run over the row versions: E25 or E26; or there are too many anomalies: E27.
     Refused(Refusal),
     /// Memory ran out.
     NoMemory,

@@ -84,17 +84,20 @@ fn push_changes_at<'a>(
     }
 }
 
-/// The changes of two transactions.
-fn changes_of_both<'a>(
+/// The changes of two transactions; where they are one, those of this one.
+pub(crate) fn changes_of_both<'a>(
     alloc: Global,
     lists: &[Vec<RowChange<'a>>],
     a: u32,
     b: u32,
 ) -> Result<Vec<RowChange<'a>>, NoMemory>
-    ensures { IfOk result (λ both. both.items ≡ n.changes_at lists.now a ++ n.changes_at lists.now b) }
+    ensures { IfOk result (λ both. both.items ≡ n.either (n.changes_at lists.now) a b) }
 {
     let mut both = Vec::new(alloc);
     push_changes_at(lists, a, &mut both)?;
+    if a == b {
+        return Ok(both);
+    }
     push_changes_at(lists, b, &mut both)?;
     Ok(both)
 }
@@ -102,7 +105,7 @@ fn changes_of_both<'a>(
 // ---- steps that hold by a read alone
 
 /// Whether a transaction comes before another one only since it read what was before the other's commit.
-fn only_read(
+pub(crate) fn only_read(
     alloc: Global,
     log: &Log,
     changes: &[RowChange<'_>],
@@ -189,7 +192,7 @@ fn lost_by<'a>(
 }
 
 /// Why an update of b is lost in one of a, by the first row.
-fn lost<'a>(
+pub(crate) fn lost<'a>(
     alloc: Global,
     log: &Log,
     changes: &[RowChange<'a>],

@@ -1,8 +1,8 @@
 //! Which transactions come before which others.
 
-ghost use Rattle.std.specs.Prelude.{◌≡◌, ◌<◌, ◌+◌, map, IfOk, OnOk};
+ghost use Rattle.std.specs.Prelude.{◌≡◌, ◌<◌, ◌+◌, suc, length, map, IfOk, OnOk};
 ghost use Rattle.gp_log.specs.Contents.{StatementsFit, entries, tables};
-ghost use Rattle.gp_machine.specs.Entries.{statement_count};
+ghost use Rattle.gp_machine.specs.Entries.{statement_count, transactions_in};
 ghost use Rattle.gp_machine.specs.Precedence as m;
 ghost use Rattle.gp_serial.specs.Changes.{AreMade, change_view};
 ghost use Rattle.gp_serial.specs.LookViews.{look_view};
@@ -183,7 +183,8 @@ pub fn precedence(
     requires made { AreMade (entries log.now) changes.now }
     requires grouped { AreGrouped (map change_view changes.now) }
     requires committers { IsMadeBy (entries log.now) committers.now }
-    ensures { IfOk result (λ graph. IsPrecedence (tables log.now) (entries log.now)
+    ensures count { IfOk result (λ graph. length graph ≡ suc (transactions_in (entries log.now))) }
+    ensures relation { IfOk result (λ graph. IsPrecedence (tables log.now) (entries log.now)
         (map change_view changes.now) committers.now (is_edge graph)) }
 {
     let mut graph = Graph::new(alloc, log.transactions() as usize + 1)?;

@@ -64,7 +64,7 @@ pub enum Serial<'a> {
 // ---- the transactions
 
 /// The transactions that committed, in the order of their versions.
-fn committers(alloc: Global, log: &Log) -> Result<Vec<u32>, NoMemory>
+pub(crate) fn committers(alloc: Global, log: &Log) -> Result<Vec<u32>, NoMemory>
     ensures { IfOk result (λ found. found.items ≡ committers (entries log.now)) }
 {
     let mut committers = Vec::with_capacity(alloc, log.commits() as usize)?;
@@ -75,7 +75,7 @@ fn committers(alloc: Global, log: &Log) -> Result<Vec<u32>, NoMemory>
 }
 
 /// The transactions that committed, in the order of their numbers.
-fn by_number(alloc: Global, log: &Log) -> Result<Vec<u32>, NoMemory>
+pub(crate) fn by_number(alloc: Global, log: &Log) -> Result<Vec<u32>, NoMemory>
     ensures { IfOk result (λ found. found.items ≡ s.by_number (entries log.now)) }
 {
     let mut numbers = Vec::with_capacity(alloc, log.commits() as usize)?;
@@ -136,7 +136,11 @@ fn check_run(alloc: Global, log: &Log, versions: &[VersionTable], t: u32) -> Res
 }
 
 /// Stops at the first transaction that committed, in the order of their versions, that does not run over the row versions.
-fn check_runs(alloc: Global, log: &Log, versions: &[VersionTable]) -> Result<(), SerialStop>
+pub(crate) fn check_runs(
+    alloc: Global,
+    log: &Log,
+    versions: &[VersionTable],
+) -> Result<(), SerialStop>
     requires rules { IsSerializable log.now versions.now }
     ensures { c.ChecksRuns (entries log.now) (spans_of versions.now) (commits log.now) result }
 {
@@ -168,7 +172,7 @@ fn reason_between<'a>(
 }
 
 /// A step of a cycle.
-fn make_step<'a>(
+pub(crate) fn make_step<'a>(
     alloc: Global,
     log: &Log,
     changes: &[RowChange<'a>],
@@ -189,7 +193,7 @@ fn make_step<'a>(
 }
 
 /// The transaction behind one of a cycle: behind the last one, the first.
-fn next_in(cycle: &[u32], place: usize) -> u32
+pub(crate) fn next_in(cycle: &[u32], place: usize) -> u32
     requires { place < length cycle.now }
     ensures { result ≡ v.next_in cycle.now place }
 {

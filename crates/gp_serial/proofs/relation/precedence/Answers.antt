@@ -1,4 +1,4 @@
-use Rattle.std.proofs.Common.{◌≡◌, ◌<◌, ◌+◌, ◌∙◌, ℕ, zero, suc, Bool, false, List, [], Some, length, get_or, replicate, refl, ap, arith}
+use Rattle.std.proofs.Common.{◌≡◌, ◌<◌, ◌+◌, ◌∙◌, ℕ, zero, suc, add-one, Bool, false, List, [], Some, length, get_or, replicate, refl, ap, arith}
 use Rattle.std.specs.Prelude.{◌||◌, slice_get, Contains}
 use Rattle.std.proofs.lemmas.Option.{slice_get-get_or}
 use Rattle.gp_log.specs.Contents.{entries, tables}
@@ -24,8 +24,13 @@ as_many (suc n) row = ap suc (as_many n row)
 place_of : (list : List ℕ) (t : ℕ) → Contains list t → (n : ℕ) × (slice_get list n ≡ Some t)
 place_of list t (n, within, at) = (n, slice_get-get_or list n t within ∙ ap (λ u. Some u) at)
 
-pub returns : goal.returns
-returns c = λ a b there_a there_b.
+pub returns-clause-count : goal.returns-clause-count
+returns-clause-count c =
+    let count : length c.in_ok-graph.graph ≡ c.transactions.result + 1 = ap length c.in_ok-graph.ensures ∙ as_many (c.transactions.result + 1) (replicate (c.transactions.result + 1) false) in
+    c.add_rows.ensures.count ∙ c.in_ok-add_transactions.ensures.count ∙ count ∙ add-one c.transactions.result ∙ ap suc c.transactions.ensures
+
+pub returns-clause-relation : goal.returns-clause-relation
+returns-clause-relation c = λ a b there_a there_b.
     let log = entries c.args.log.now in
     let all = tables c.args.log.now in
     let changes = c.args.changes.now in

@@ -17,21 +17,21 @@ returns-then-len-all c =
     let short : length c.in_ok-order.order.items < length c.args.all.now = omega (arith, c.if-len-all.true, c.len.ensures) in (
       c.requires.runs,
       cycle_found c.args.log.now c.args.versions.now c.requires.rules c.requires.runs c.args.all.now c.requires.all (map change_view c.args.changes.now) c.requires.changes
-          (is_edge c.in_ok-graph.graph) c.in_ok-graph.ensures c.in_ok-order.order.items c.in_ok-order.ensures short (serial_view c.in_ok-found.found) c.in_ok-found.ensures,
+          (is_edge c.in_ok-graph.graph) c.in_ok-graph.ensures.relation c.in_ok-order.order.items c.in_ok-order.ensures short (serial_view c.in_ok-found.found) c.in_ok-found.ensures,
     )
 
 pub in_order-requires-clause-order : goal.in_order-requires-clause-order
 in_order-requires-clause-order c =
     few_ordered c.args.log.now c.args.versions.now c.requires.rules c.requires.runs c.args.all.now c.requires.all (map change_view c.args.changes.now) c.requires.changes
-    (is_edge c.in_ok-graph.graph) c.in_ok-graph.ensures c.in_ok-order.order.items c.in_ok-order.ensures
+    (is_edge c.in_ok-graph.graph) c.in_ok-graph.ensures.relation c.in_ok-order.order.items c.in_ok-order.ensures
 
 pub in_order-requires-clause-runs : goal.in_order-requires-clause-runs
 in_order-requires-clause-runs c =
     whole_runs c.args.log.now c.args.versions.now c.requires.rules c.requires.runs c.args.all.now c.requires.all (map change_view c.args.changes.now) c.requires.changes
-    (is_edge c.in_ok-graph.graph) c.in_ok-graph.ensures c.in_ok-order.order.items c.in_ok-order.ensures
+    (is_edge c.in_ok-graph.graph) c.in_ok-graph.ensures.relation c.in_ok-order.order.items c.in_ok-order.ensures
 
 pub returns : goal.returns
 returns c =
     let whole : length c.args.all.now ≤ length c.in_ok-order.order.items = omega (arith, c.if-len-all.false, c.len.ensures) in
     order_tried c.args.log.now c.args.versions.now c.requires.rules c.requires.runs c.args.all.now c.requires.all (map change_view c.args.changes.now) c.requires.changes
-    (is_edge c.in_ok-graph.graph) c.in_ok-graph.ensures c.in_ok-order.order.items c.in_ok-order.ensures whole c.in_order.result c.in_order.ensures
+    (is_edge c.in_ok-graph.graph) c.in_ok-graph.ensures.relation c.in_ok-order.order.items c.in_ok-order.ensures whole c.in_order.result c.in_order.ensures
