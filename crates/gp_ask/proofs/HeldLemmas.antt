@@ -48,6 +48,7 @@ use Rattle.gp_ask.specs.Made.{unmade_refusal}
 use Rattle.gp_ask.specs.Printed.{answer_to, held_to, query_held, query_to, what_if_held}
 use Rattle.gp_ask.specs.Programs.{program_lines}
 use Rattle.gp_ask.specs.Seeing.{seen_refusal}
+use Rattle.gp_ask.specs.AnomalyAnswers.{anomaly_answer}
 use Rattle.gp_ask.specs.Asking.{of_elements, query_answer, table_spans, with_monomials}
 use Rattle.gp_ask.specs.AskingForms.{dump_program, dump_provenance, dump_query, dump_remaining, dump_rows, held_provenance, held_remaining, held_rows, rules_of, versions_answer}
 use Rattle.gp_ask.specs.ValueForms.{dump_valued, dump_values, held_valued, held_values}
@@ -241,6 +242,7 @@ module _ (state : State Monomial) (spans-kept : (table : ℕ) → state_spans (f
     held (y.history name cond) = lives name cond
     held (y.when query) = when-same (query_to (dump_of (forgetting state))) (query_held state) of-subject state.entries query
     held (y.bare y.serial) = ap serial_answer dump-same
+    held (y.bare y.anomalies) = ap anomaly_answer dump-same
     held (y.bare y.check) = ap Checked same
     held (y.diff first second query) =
         diff-same (cond (are_mixed first second) (query_to (replayed_dump state.entries)) (query_to (dump_of (forgetting state)))) (cond (are_mixed first second) (query_held state) (query_held state))

@@ -1,3 +1,5 @@
+mod AnomalyCycles
+mod AnomalyLemmas
 mod AnyPrograms
 mod AskedValues
 mod BackendLemmas

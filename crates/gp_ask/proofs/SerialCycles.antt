@@ -115,6 +115,28 @@ matched table version last (span ∷ spans) =
     ++ cond (ends_at version span && not (goes_on version span (slice_get spans 0))) (record { id = span.id; before = Some span.row; after = None } ∷ []) []) (changes_in version (Some span) spans) (own is))
     (spans_changes table (Some span) spans) (matched table version (Some span) spans))
 
+-- ---- what holds of each
+
+pub kept_each : {A : Type 0} (P Q : A → Type 0) (q : A → Bool) → ((x : A) → P x → q x ≡ true → Q x) → (xs : List A) → AllByRecursion P xs → AllByRecursion Q (filter q xs)
+kept_each P Q q keeps [] all = tt
+kept_each P Q q keeps (x ∷ xs) (own, all) = by (q x) refl (kept_each P Q q keeps xs all)
+  where
+    by : (e : Bool) → q x ≡ e → AllByRecursion Q (filter q xs) → AllByRecursion Q (cond e (x ∷ filter q xs) (filter q xs))
+    by true is rest = (keeps x own is, rest)
+    by false is rest = rest
+
+pub each_of : {A B : Type 0} (P : B → Type 0) (f : A → List B) (xs : List A) → ((x : A) → AllByRecursion P (f x)) → AllByRecursion P (flat_map f xs)
+each_of P f [] each = tt
+each_of P f (x ∷ xs) each = each_append P (f x) (flat_map f xs) (each x) (each_of P f xs each)
+
+pub each_with : {A B : Type 0} (P : B → Type 0) (Q : A → Type 0) (f : A → List B) (xs : List A) → AllByRecursion Q xs → ((x : A) → Q x → AllByRecursion P (f x)) → AllByRecursion P (flat_map f xs)
+each_with P Q f [] all each = tt
+each_with P Q f (x ∷ xs) (own, all) each = each_append P (f x) (flat_map f xs) (each x own) (each_with P Q f xs all each)
+
+pub mapped_each : {A B : Type 0} (P : B → Type 0) (Q : A → Type 0) (f : A → B) → ((x : A) → Q x → P (f x)) → (xs : List A) → AllByRecursion Q xs → AllByRecursion P (map f xs)
+mapped_each P Q f holds [] all = tt
+mapped_each P Q f holds (x ∷ xs) (own, all) = (holds x own, mapped_each P Q f holds xs all)
+
 -- ---- the transaction that made a version
 
 made_some : (version : ℕ) (entries : List Entry) → 0 < committer_of version entries → (0 < version) × (version ≤ versions_in entries)
@@ -211,26 +233,6 @@ module _ (state : State (Unit {0})) (rows : (version table : ℕ) → version �
   -- ---- reasons
 
   module _ (tables : List Table) (catalogue : tables ≡ state.catalogue) (changes : List RowChange) (all : AllByRecursion (IsTrue state) changes) (a b : ℕ) (some_a : 0 < a) (some_b : 0 < b) where
-    kept_each : {A : Type 0} (P Q : A → Type 0) (q : A → Bool) → ((x : A) → P x → q x ≡ true → Q x) → (xs : List A) → AllByRecursion P xs → AllByRecursion Q (filter q xs)
-    kept_each P Q q keeps [] all = tt
-    kept_each P Q q keeps (x ∷ xs) (own, all) = by (q x) refl (kept_each P Q q keeps xs all)
-      where
-        by : (e : Bool) → q x ≡ e → AllByRecursion Q (filter q xs) → AllByRecursion Q (cond e (x ∷ filter q xs) (filter q xs))
-        by true is rest = (keeps x own is, rest)
-        by false is rest = rest
-
-    each_of : {A B : Type 0} (P : B → Type 0) (f : A → List B) (xs : List A) → ((x : A) → AllByRecursion P (f x)) → AllByRecursion P (flat_map f xs)
-    each_of P f [] each = tt
-    each_of P f (x ∷ xs) each = each_append P (f x) (flat_map f xs) (each x) (each_of P f xs each)
-
-    each_with : {A B : Type 0} (P : B → Type 0) (Q : A → Type 0) (f : A → List B) (xs : List A) → AllByRecursion Q xs → ((x : A) → Q x → AllByRecursion P (f x)) → AllByRecursion P (flat_map f xs)
-    each_with P Q f [] all each = tt
-    each_with P Q f (x ∷ xs) (own, all) each = each_append P (f x) (flat_map f xs) (each x own) (each_with P Q f xs all each)
-
-    mapped_each : {A B : Type 0} (P : B → Type 0) (Q : A → Type 0) (f : A → B) → ((x : A) → Q x → P (f x)) → (xs : List A) → AllByRecursion Q xs → AllByRecursion P (map f xs)
-    mapped_each P Q f holds [] all = tt
-    mapped_each P Q f holds (x ∷ xs) (own, all) = (holds x own, mapped_each P Q f holds xs all)
-
     own_by : (t : ℕ) → 0 < t → AllByRecursion (IsChangeBy state t) (changes_by tables state.entries changes t)
     own_by t some = kept_each (IsTrue state) (IsChangeBy state t) (λ (change : RowChange). committer_of change.version state.entries == t) (λ change true_so is.
         let own = eqb-true (committer_of change.version state.entries) t is in
@@ -245,7 +247,7 @@ module _ (state : State (Unit {0})) (rows : (version table : ℕ) → version �
     at_most : (n m : ℕ) → nat_le n m ≡ true → n ≤ m
     at_most n m e = grind (arith, nat_tests)
 
-    before_true : AllByRecursion (IsReason state a b) (read_before tables state.entries changes a b)
+    pub before_true : AllByRecursion (IsReason state a b) (read_before tables state.entries changes a b)
     before_true = each_of (IsReason state a b) (λ k. map (ReadBefore k) (looked_at tables state.entries changes a k (filter (λ (change : RowChange). nat_lt (statement_version a k state.entries) change.version) (changes_by tables state.entries changes b))))
         (numbers (statement_count a state.entries)) (λ k.
         mapped_each (IsReason state a b) (λ change. IsReason state a b (ReadBefore k change)) (ReadBefore k) (λ change own. own) _
@@ -270,7 +272,7 @@ module _ (state : State (Unit {0})) (rows : (version table : ℕ) → version �
         let ids_same = same-exact change.row.identity other.row.identity parts.1 in
         λ i. record { table = tables_same i; identity = ids_same i }
 
-    wrote_true : AllByRecursion (IsReason state a b) (wrote_before tables state.entries changes a b)
+    pub wrote_true : AllByRecursion (IsReason state a b) (wrote_before tables state.entries changes a b)
     wrote_true = each_with (IsReason state a b) (IsChangeBy state a) (λ (change : RowChange). map (Wrote change) (filter (λ (other : RowChange). same_row change other && nat_lt change.version other.version) (changes_by tables state.entries changes b)))
         (changes_by tables state.entries changes a) (own_by a some_a) (λ change made.
         mapped_each (IsReason state a b) (λ other. IsReason state a b (Wrote change other)) (Wrote change) (λ other own. own) _
@@ -312,7 +314,7 @@ module _ (state : State (Unit {0})) (rows : (version table : ℕ) → version �
 
   module _ (tables : List Table) (catalogue : tables ≡ state.catalogue) (changes : List RowChange) (all : AllByRecursion (IsTrue state) changes) where
     -- a transaction that committed; numbers begin with 1
-    abbrev IsMember : ℕ → Type 0
+    abbrev pub IsMember : ℕ → Type 0
     IsMember t = (0 < t) × (is_some (version_of t state.entries) ≡ true)
 
     steps_true : (first : ℕ) (list : List ℕ) → 0 < first → AllByRecursion IsMember list → closes (is_before tables state.entries changes) first list ≡ true
@@ -343,15 +345,16 @@ module _ (state : State (Unit {0})) (rows : (version table : ℕ) → version �
         by true is rest = ((own, is), rest)
         by false is rest = rest
 
+    -- the transactions that committed are such
+    pub numbered : AllByRecursion IsMember (by_number state.entries)
+    numbered = each_filter (λ t. 0 < t) (λ t. is_some (version_of t state.entries)) (numbers (transactions_in state.entries)) (positive (transactions_in state.entries))
+
     -- a least cycle is one of true steps
     pub cycle_true : (first : ℕ) (others : List ℕ) → least_cycle (is_before tables state.entries changes) (by_number state.entries) ≡ first ∷ others
         → AreSteps state first (first ∷ others) (map (step_text tables state.entries) (steps_of tables state.entries changes (first ∷ others)))
     cycle_true first others is =
         by (find (is_cycle (is_before tables state.entries changes)) (flat_map (λ n. lists_of n (by_number state.entries)) (numbers (length (by_number state.entries))))) refl is
       where
-        numbered : AllByRecursion IsMember (by_number state.entries)
-        numbered = each_filter (λ t. 0 < t) (λ t. is_some (version_of t state.entries)) (numbers (transactions_in state.entries)) (positive (transactions_in state.entries))
-
         by : (found : Option (List ℕ)) → find (is_cycle (is_before tables state.entries changes)) (flat_map (λ n. lists_of n (by_number state.entries)) (numbers (length (by_number state.entries)))) ≡ found
             → unwrap_or found [] ≡ first ∷ others → AreSteps state first (first ∷ others) (map (step_text tables state.entries) (steps_of tables state.entries changes (first ∷ others)))
         by None e is = absurd (empty is)

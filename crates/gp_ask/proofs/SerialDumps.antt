@@ -1,5 +1,5 @@
--- A well-formed dump can be asked SERIAL: the changes of a row stand together, since its row versions are in order.
-use Rattle.std.proofs.Common.{◌≡◌, ◌⊎◌, ◌<◌, ◌≤◌, ◌+◌, ℕ, zero, suc, Bool, true, false, cond, List, [], ◌∷◌, ◌++◌, Option, Some, None, Result, Ok, Err, refl, sym, ap, ◌∙◌, subst, arith, inl, inr}
+-- A well-formed dump can be asked SERIAL and ANOMALIES: the changes of a row stand together, since its row versions are in order.
+use Rattle.std.proofs.Common.{Global, Vec, map, ◌≡◌, ◌⊎◌, ◌<◌, ◌≤◌, ◌+◌, ℕ, zero, suc, Bool, true, false, cond, List, [], ◌∷◌, ◌++◌, Option, Some, None, Result, Ok, Err, refl, sym, ap, ◌∙◌, subst, arith, inl, inr}
 use Rattle.std.specs.Prelude.{◌==◌, ◌&&◌, ◌||◌, nat_le, nat_lt, slice_get}
 use Rattle.std.specs.List.{AllByRecursion}
 use Rattle.std.specs.Option.{option_map_or}
@@ -23,13 +23,18 @@ use Rattle.gp_dump.specs.Dumps.{has_ended_by, ends_within, is_after, is_in_place
 use Rattle.gp_dump.specs.Views.{dump_view, tables_view}
 use Rattle.gp_dump.specs.WholeDumps.{AreInPlace, AreOfTables, IsDump}
 use Rattle.gp_dump.specs.declared.dump.Dump as code
+use Rattle.gp_serial.specs.Anomalies.{Anomalies, anomalies_of}
+use Rattle.gp_serial.specs.AnomalyViews.{AreAnomalies, anomaly_view}
 use Rattle.gp_serial.specs.Preceding.{AreGrouped}
 use Rattle.gp_serial.specs.SerialViews.{IsSerialOf, IsSerializable, serial_view}
 use Rattle.gp_serial.specs.Serializing.{runs_refusal, serial_of}
+use Rattle.gp_serial.specs.declared.anomaly.Anomaly.{Anomaly}
 use Rattle.gp_serial.specs.declared.error.SerialStop.{SerialStop}
 use Rattle.gp_serial.specs.declared.error.SerialStop.TheVariants as stop
 use Rattle.gp_serial.specs.declared.serializing.Serial.{Serial}
 use Rattle.gp_ask.specs.declared.answered.Answered.{Answered}
+use Rattle.gp_ask.specs.declared.answered.Answered.TheVariants as answered
+use Rattle.gp_ask.specs.AnomalyAnswers.{anomaly_answer, anomaly_text, answered_anomalies}
 use Rattle.gp_ask.specs.SerialAnswers.{answered_serial, serial_answer}
 use Rattle.gp_ask.specs.SerialStops.{IsUnserialized}
 use Rattle.gp_ask.specs.Values.{unless_refused}
@@ -274,3 +279,24 @@ refused_is entries versions (stop.Refused refusal) result is of =
     (dump-spans versions))
 refused_is entries versions stop.NoMemory (Ok answered) is of = absurd (false≢true of)
 refused_is entries versions stop.NoMemory (Err error) is of = tt
+
+-- ---- the answer to ANOMALIES
+
+module _ (entries : List Entry) (versions : List Versions) where
+  abbrev found_over : (ℕ → List Span) → Anomalies
+  found_over spans = anomalies_of (tables_in entries) entries (tables_changes 0 (tables_view versions)) parameters spans
+
+  over_dump : answered_anomalies (tables_in entries) entries (found_over (spans_of versions)) ≡ anomaly_answer (record { entries = entries; tables = tables_view versions })
+  over_dump = ap (λ spans. answered_anomalies (tables_in entries) entries (found_over spans)) (dump-spans versions)
+
+  pub anomalies_found : (found : Vec Anomaly Global) → AreAnomalies (found_over (spans_of versions)) (Ok found)
+      → answered.Anomalies (map (anomaly_text (tables_in entries) entries) (map anomaly_view found.items)) ≡ anomaly_answer (record { entries = entries; tables = tables_view versions })
+  anomalies_found found is = ap (answered_anomalies (tables_in entries) entries) is ∙ over_dump
+
+  pub anomalies_refused : {E : Type 0} (stop : SerialStop) (result : Result Answered E) → AreAnomalies (found_over (spans_of versions)) (Err stop) → IsUnserialized stop result
+      → IfOk result (λ answered. answered ≡ anomaly_answer (record { entries = entries; tables = tables_view versions }))
+  anomalies_refused (stop.Refused refusal) result is of =
+      subst (λ result. IfOk result (λ answered. answered ≡ anomaly_answer (record { entries = entries; tables = tables_view versions }))) (sym of)
+      (ap (answered_anomalies (tables_in entries) entries) is ∙ over_dump)
+  anomalies_refused stop.NoMemory (Ok answered) is of = absurd (false≢true of)
+  anomalies_refused stop.NoMemory (Err error) is of = tt

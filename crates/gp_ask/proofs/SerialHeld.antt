@@ -1,7 +1,9 @@
--- What the answers to SERIAL say of a history, given what holds of its row versions.
+-- What the answers to SERIAL and ANOMALIES say of a history, given what holds of its row versions.
 use Rattle.std.proofs.Common.{◌≡◌, ◌+◌, ◌<◌, ◌≤◌, ℕ, suc, true, false, List, [], ◌∷◌, Bool, length, map, None, refl, sym, ap, ◌∙◌, subst, arith}
 use Rattle.std.specs.List.{AllByRecursion}
 use Rattle.std.specs.List.Sorted.{IsPermutation}
+use Rattle.gp_base.specs.declared.refusal.Refusal.{Refusal}
+use Rattle.gp_base.specs.declared.refusal.Refusal.TheVariants.{E27}
 use Rattle.gp_base.specs.declared.table.Table.{Table}
 use Rattle.gp_base.specs.Annotated.{Annotated, unannotated}
 use Rattle.gp_base.specs.Order.{sorted_by}
@@ -23,18 +25,25 @@ use Rattle.gp_machine.specs.State.{State}
 use Rattle.gp_versions.specs.declared.span.Span.{Span}
 use Rattle.gp_versions.specs.Spans.{rows_at, span_cmp, spans_at}
 use Rattle.gp_versions.specs.TableSpans.{AreOfDifferentRows, AreWhole, NoOverlap}
+use Rattle.gp_serial.specs.Anomalies.{anomaly_of, cycles, facts, goes_back}
 use Rattle.gp_serial.specs.Graphs.{order_of}
+use Rattle.gp_serial.specs.PairLaws.{IsOfPair}
+use Rattle.gp_serial.specs.Serializing.{by_number}
 use Rattle.gp_serial.proofs.OrderLemmas.{order_has_all}
 use Rattle.gp_serial.proofs.SerialOrders.{are_once}
 use Rattle.gp_serial.proofs.SerializingLemmas.{all_different, order_different}
-use Rattle.gp_ask.specs.declared.answered.Answered.TheVariants.{Lines}
+use Rattle.gp_ask.specs.declared.answered.AnomalyText.{AnomalyText}
+use Rattle.gp_ask.specs.declared.answered.Answered.TheVariants.{Anomalies, Lines, Refused}
 use Rattle.gp_ask.specs.declared.answered.Heading.TheVariants.{Cycle, Serial}
+use Rattle.gp_ask.specs.AnomalyAnswers.{anomaly_answer, anomaly_text}
 use Rattle.gp_ask.specs.Asking.{table_spans}
 use Rattle.gp_ask.specs.Questions.{is_refused}
-use Rattle.gp_ask.specs.SerialAnswers.{serial_answer}
+use Rattle.gp_ask.specs.SerialAnswers.{serial_answer, step_text}
 use Rattle.gp_ask.specs.SerialHistories.{AreSteps, IsTrue, RunsInCycle, RunsSerially}
+use Rattle.gp_ask.proofs.AnomalyCycles.{anomaly_true}
+use Rattle.gp_ask.proofs.AnomalyLemmas.{anomalies_given, refused_given}
 use Rattle.gp_ask.proofs.DifferentRows.{different-spans, different-unmapped}
-use Rattle.gp_ask.proofs.SerialCycles.{cycle_true, tables_true}
+use Rattle.gp_ask.proofs.SerialCycles.{cycle_true, mapped_each, tables_true}
 use Rattle.gp_ask.proofs.SerialLemmas.{cycle_given, is_answered, none_refused, order_given}
 use Rattle.gp_ask.proofs.SpanLemmas.{dumped, in-order}
 
@@ -95,8 +104,23 @@ module _ (state : State (Unit {0})) (keeps : KeepsSessions state.entries) (whole
               (cycle_true state rows apart are_whole different tables whole (tables_changes 0 (dump_of state).tables) all_true found.first found.others found.is);
         }
 
-  -- ---- no refusal
+    -- ---- anomalies
+
+    pub anomalies_true : AllByRecursion (IsOfPair before (by_number state.entries) (goes_back tables state.entries (tables_changes 0 (dump_of state).tables))) (cycles tables state.entries (tables_changes 0 (dump_of state).tables))
+        → (texts : List AnomalyText) → anomaly_answer (dump_of state) ≡ Anomalies texts → AllByRecursion (λ (text : AnomalyText). RunsInCycle state text.steps) texts
+    anomalies_true pairs texts e =
+        subst (AllByRecursion (λ (text : AnomalyText). RunsInCycle state text.steps)) (sym (anomalies_given tables state.entries (tables_changes 0 (dump_of state).tables) texts _ e))
+        (mapped_each (λ text. RunsInCycle state text.steps) (λ anomaly. RunsInCycle state (map (step_text tables state.entries) anomaly.steps)) (anomaly_text tables state.entries) (λ anomaly is. is) _
+        (mapped_each (λ anomaly. RunsInCycle state (map (step_text tables state.entries) anomaly.steps))
+        (IsOfPair before (by_number state.entries) (goes_back tables state.entries (tables_changes 0 (dump_of state).tables))) (anomaly_of (facts tables state.entries (tables_changes 0 (dump_of state).tables)))
+        (λ cycle of. anomaly_true state rows apart are_whole different tables whole (tables_changes 0 (dump_of state).tables) all_true cycle of.first.through.own) _ pairs))
+
+  -- ---- refusals
 
   pub answers : ((u : ℕ) → u < versions_in state.entries → run_stop unannotated parameters (log_of state.entries) (committer_of (suc u) state.entries)
       (statement_count (committer_of (suc u) state.entries) state.entries) (as_of unannotated spans) ≡ None) → is_refused (serial_answer (dump_of state)) ≡ false
   answers runs = is_answered tables state.entries (tables_changes 0 (dump_of state).tables) spans _ (none_refused state.entries spans (versions_in state.entries) runs)
+
+  pub limited : ((u : ℕ) → u < versions_in state.entries → run_stop unannotated parameters (log_of state.entries) (committer_of (suc u) state.entries)
+      (statement_count (committer_of (suc u) state.entries) state.entries) (as_of unannotated spans) ≡ None) → (refusal : Refusal) → anomaly_answer (dump_of state) ≡ Refused refusal → refusal ≡ E27
+  limited runs refusal e = refused_given tables state.entries (tables_changes 0 (dump_of state).tables) refusal _ (none_refused state.entries spans (versions_in state.entries) runs) e

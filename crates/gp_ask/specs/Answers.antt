@@ -26,6 +26,7 @@ use Rattle.gp_dumpline.specs.Texts.{entry_text, span_text}
 use Rattle.gp_ask.specs.declared.answered.Answered.{Answered}
 use Rattle.gp_ask.specs.declared.answered.Answered.TheVariants.{Checked, Lines, Program, Refused}
 use Rattle.gp_ask.specs.declared.answered.Heading.TheVariants.{Changes, Log, Transactions, Versions}
+use Rattle.gp_ask.specs.AnomalyAnswers.{anomaly_answer}
 use Rattle.gp_ask.specs.Asking.{Programs, query_answer, table_spans}
 use Rattle.gp_ask.specs.Changes.{commit_changes, numbered_changes}
 use Rattle.gp_ask.specs.Differences.{are_mixed, causes_answer, diff_answer}
@@ -44,11 +45,11 @@ use Rattle.gp_serial.specs.Serializing.{runs_refusal}
 
 module _ (programs : Programs) where
   -- Given a log, its tables and their row versions; what answers a query; what a transaction read before its statement k + 1, what stops its first k statements, and
-  -- those that committed; the conflicts of a transaction; whether the transactions run one after another; why the rows are not those that the log makes; and the
-  -- line that CHECK names. What would be with changes is what the history held that the commits of the changed log, made again, lead to. Beside it, the history is what
+  -- those that committed; the conflicts of a transaction; whether the transactions run one after another, and their anomalies; why the rows are not those that the log
+  -- makes; and the line that CHECK names. What would be with changes is what the history held that the commits of the changed log, made again, lead to. Beside it, the history is what
   -- its own log, made again, leads to.
   module _ {M : Type 0} (domain : Annotations M) (entries : List Entry) (tables : List Table) (spans : List (List Span)) (asks remade : y.Subject → y.Query → Answered)
-      (before : ℕ → ℕ → Database M) (stop : ℕ → ℕ → Option Refusal) (stopped : Option Refusal) (conflicts : ℕ → Answered) (serial : Answered) (unmade : Option Refusal)
+      (before : ℕ → ℕ → Database M) (stop : ℕ → ℕ → Option Refusal) (stopped : Option Refusal) (conflicts : ℕ → Answered) (serial anomalies : Answered) (unmade : Option Refusal)
       (line : Option ℕ) where
     abbrev pub answer_by : y.Question → Answered
     answer_by (y.bare (y.log t)) = if is_known t entries then Lines Log (map entry_text (filter (is_of t) (reverse entries))) else Refused (E20 t)
@@ -63,6 +64,7 @@ module _ (programs : Programs) where
         (checked_query tables (all_of name cond))
     answer_by (y.when query) = when_answer asks entries query
     answer_by (y.bare y.serial) = serial
+    answer_by (y.bare y.anomalies) = anomalies
     answer_by (y.bare y.check) = Checked line
     answer_by (y.diff first second query) = diff_answer (if are_mixed first second then remade else asks) (what_if_held programs entries) unmade entries first second query
     answer_by (y.causes subject query) = causes_answer remade (what_if_held programs entries) unmade entries subject query
@@ -76,11 +78,11 @@ module _ (programs : Programs) where
       let past = as_of unannotated (table_spans dump.tables) in
       answer_by unannotated dump.entries (tables_in dump.entries) dump.tables (query_to programs dump) (query_to programs (replayed_dump dump.entries))
       (λ t k. run_before unannotated (log_of dump.entries) t k past) (λ t k. own_stop unannotated parameters dump.entries (y.after t k) past)
-      (runs_refusal parameters dump.entries (table_spans dump.tables) (versions_in dump.entries)) (dump_conflicts dump) (serial_answer dump) (unmade_refusal dump) (difference dump)
+      (runs_refusal parameters dump.entries (table_spans dump.tables) (versions_in dump.entries)) (dump_conflicts dump) (serial_answer dump) (anomaly_answer dump) (unmade_refusal dump) (difference dump)
 
   -- as a history held it: transactions read what the history machine says, and none stops; its row versions are those of its dump, which is one of a history, and
   -- which its log makes
   abbrev pub held_to : State Monomial → y.Question → Answered
   held_to state =
       answer_by monomials state.entries state.catalogue (dump_of state).tables (query_held programs state) (query_held programs state)
-      (λ t k. start_by monomials (log_of state.entries) t k state.committed) (λ t k. None) None (history_conflicts state) (serial_answer (dump_of state)) None None
+      (λ t k. start_by monomials (log_of state.entries) t k state.committed) (λ t k. None) None (history_conflicts state) (serial_answer (dump_of state)) (anomaly_answer (dump_of state)) None None

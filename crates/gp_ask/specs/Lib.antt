@@ -1,3 +1,4 @@
+pub mod AnomalyAnswers
 pub mod Answerable
 pub mod Answers
 pub mod Asking

@@ -23,6 +23,15 @@ pub struct Sheet {
     pub rows: Sequence<Row>,
 }
 
+/// A cycle of transactions in an answer.
+#[derive(Drop)]
+pub struct AnomalyText {
+    /// Its name and its transactions.
+    pub title: Text,
+    /// Why each of these comes before the next one.
+    pub steps: Sequence<Text>,
+}
+
 /// What the lines of an answer are.
 #[derive(Clone, Copy)]
 pub enum Heading {
@@ -88,6 +97,8 @@ pub enum Answered {
     Program(Sequence<Text>),
     /// Lines of any other kind.
     Lines(Heading, Sequence<Text>),
+    /// The cycles of transactions, by length and then by their numbers.
+    Anomalies(Sequence<AnomalyText>),
     /// The rows that are more often in one of two answers, in row order, each behind its sign, a text.
     Diff(Sequence<Row>),
     /// The number of the first line of the dump that differs, or None if it is the dump of a history.

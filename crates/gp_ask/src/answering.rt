@@ -11,6 +11,7 @@ ghost use Rattle.gp_ask.specs.ExplainedTexts.{ExplainsQuestion};
 ghost use Rattle.gp_ask.specs.Formats.{asks_rows};
 ghost use Rattle.gp_ask.specs.Keeping.{AreKept};
 
+use crate::anomalies::anomaly_answer;
 use crate::answered::Answered;
 use crate::causes::causes_answer;
 use crate::changes::{changes_answer, commit_changes_answer};
@@ -66,8 +67,8 @@ use std::alloc::Global;
 /// (E27). CAUSES is refused as the question itself is. Where one side of a DIFF has changes and the other has none, and for CAUSES, the
 /// rows of the dump have to be those that its log makes: behind the refusals that no rows decide, of the first side and then of the
 /// second, they are refused by the first commit that cannot be made again, and then by the least version in which a table has other
-/// rows (E24). SERIAL is refused for the transactions that committed, in the order of their versions (E25, E26). Running out of memory is
-/// the only error.
+/// rows (E24). SERIAL and ANOMALIES are refused for the transactions that committed, in the order of their versions (E25, E26), and
+/// ANOMALIES then for more lines than an answer has rows (E27). Running out of memory is the only error.
 pub fn answer(alloc: Global, dump: &Dump, question: &ValidQuestion) -> Result<Answered, NoMemory>
     requires rules { IsDump (dump_view dump.now) }
     ensures answered { IfOk result (λ answered. answered
@@ -104,6 +105,7 @@ pub fn answer_from(
         Question::History { table, cond } => history_answer(alloc, dump, table, cond),
         Question::When { query } => when_answer(alloc, dump, ValidQuery { read: query }),
         Question::Serial => serial_answer(alloc, dump),
+        Question::Anomalies => anomaly_answer(alloc, dump),
         Question::Check => check_answer(alloc, dump),
         Question::Diff {
             first,

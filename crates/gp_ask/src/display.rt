@@ -10,7 +10,7 @@ ghost use Rattle.gp_ask.specs.Formats as f;
 ghost use Rattle.gp_ask.specs.Texts.{answer_text, listed_line, listed_text};
 ghost use Rattle.gp_ask.specs.Texts as t;
 
-use crate::answered::{Answered, Valued};
+use crate::answered::{AnomalyText, Answered, Valued};
 use gp_base::{
     Cell, CellFormat, Monomial, NoMemory, Refusal, Row, Sequence, Text, TextFormat, append_all,
     refused_text, rows_text, short_text, text_of_pieces, write_joined, write_monomial, write_row,
@@ -193,6 +193,75 @@ fn write_difference(
     write_listed(alloc, number, b"diff", texts.as_slice(), out)
 }
 
+/// Appends the steps of a cycle.
+fn append_steps(steps: &[Text], out: &mut Vec<u8>) -> Result<(), NoMemory>
+    ensures { OnOk result (out.new.items ≡ out.old.items ++ flat_map t.step_line steps.now) }
+{
+    for text in steps {
+        append_all(out, &[b"    ", text.as_bytes(), b"\n"])?;
+    }
+    Ok(())
+}
+
+/// Appends a cycle.
+fn append_anomaly(anomaly: &AnomalyText, out: &mut Vec<u8>) -> Result<(), NoMemory>
+    ensures { OnOk result (out.new.items ≡ out.old.items ++ t.anomaly_lines anomaly.now) }
+{
+    append_all(out, &[b"  ", anomaly.title.as_bytes(), b"\n"])?;
+    append_steps(anomaly.steps.as_slice(), out)
+}
+
+/// Appends cycles.
+fn append_anomalies(anomalies: &[AnomalyText], out: &mut Vec<u8>) -> Result<(), NoMemory>
+    ensures { OnOk result (out.new.items ≡ out.old.items ++ flat_map t.anomaly_lines anomalies.now) }
+{
+    for anomaly in anomalies {
+        append_anomaly(anomaly, out)?;
+    }
+    Ok(())
+}
+
+/// The line before cycles.
+fn anomalies_heading(alloc: Global, number: u32, count: usize) -> Result<Vec<u8>, NoMemory>
+    ensures { IfOk result (λ text. text.items ≡ t.anomalies_heading number count) }
+{
+    let number = number.to_string(alloc)?;
+    let count = count.to_string(alloc)?;
+    text_of_pieces(
+        alloc,
+        &[number.as_bytes(), b" anomalies ", count.as_bytes(), b"\n"],
+    )
+}
+
+/// An answer of cycles.
+fn anomalies_text(
+    alloc: Global,
+    number: u32,
+    anomalies: &[AnomalyText],
+) -> Result<Vec<u8>, NoMemory>
+    ensures { IfOk result (λ text. text.items ≡ t.anomalies_text number anomalies.now) }
+{
+    let mut text = anomalies_heading(alloc, number, anomalies.len())?;
+    append_anomalies(anomalies, &mut text)?;
+    Ok(text)
+}
+
+/// Appends an answer of cycles. If memory runs out, `out` is unchanged.
+fn write_anomalies(
+    alloc: Global,
+    number: u32,
+    anomalies: &[AnomalyText],
+    out: &mut Vec<u8>,
+) -> Result<(), NoMemory>
+    ensures ok { OnOk result
+        (out.new.items ≡ out.old.items ++ t.anomalies_text number anomalies.now) }
+    ensures err { OnErr result (out.new.items ≡ out.old.items) }
+{
+    let text = anomalies_text(alloc, number, anomalies)?;
+    out.extend_from_slice(&text)?;
+    Ok(())
+}
+
 /// Appends an answer of rows. If memory runs out, `out` is unchanged.
 fn write_rows(
     alloc: Global,
@@ -327,6 +396,7 @@ pub fn write_answer(
         Answered::Lines(heading, texts) => {
             write_listed(alloc, number, heading.word(), texts.as_slice(), out)
         }
+        Answered::Anomalies(found) => write_anomalies(alloc, number, found.as_slice(), out),
         Answered::Diff(rows) => write_difference(alloc, number, rows.as_slice(), out),
         Answered::Checked(line) => write_checked(alloc, number, line, out),
         Answered::Refused(refusal) => write_refused(alloc, number, &refusal, out),

@@ -266,6 +266,7 @@ fn exported_text(alloc: Global, number: u32, answered: &Answered) -> Result<Vec<
         | Answered::Values(_)
         | Answered::Program(_)
         | Answered::Lines(..)
+        | Answered::Anomalies(_)
         | Answered::Diff(_)
         | Answered::Checked(_) => write_refusal_csv(alloc, number, &Refusal::E30),
     }

@@ -1,10 +1,12 @@
 //! Laws of answers. Each function does nothing: its postcondition is the law, and some cite laws of the crates below.
 
-ghost use Rattle.std.specs.Prelude.{◌≡◌, ◌↔◌, ◌++◌, ◌<◌, [], ℕ, suc, false, true, Contains, List, filter, length, map, None, Ok, Option, ◌≤◌};
+ghost use Rattle.std.specs.Prelude.{◌≡◌, ◌↔◌, ◌++◌, ◌<◌, [], ℕ, suc, false, true, Contains, List, filter, length, map, slice_get, unwrap_or, None, Ok, Option, ◌≤◌};
 ghost use Rattle.std.specs.Result.{result_unwrap_or};
 ghost use Rattle.std.specs.List.{AllByRecursion};
 ghost use Rattle.std.specs.List.Sorted.{IsPermutation, IsSorted};
 ghost use Rattle.gp_base.specs.declared.cell.Cell.{Cell};
+ghost use Rattle.gp_base.specs.declared.refusal.Refusal.{Refusal};
+ghost use Rattle.gp_base.specs.declared.refusal.Refusal.TheVariants.{E27};
 ghost use Rattle.gp_base.specs.Annotated.{Annotations, Database, monomials, unannotated};
 ghost use Rattle.gp_base.specs.Order.{row_cmp, sorted_by};
 ghost use Rattle.gp_base.specs.Tokens.{Monomial};
@@ -20,6 +22,7 @@ ghost use Rattle.gp_machine.specs.Committed.{is_written};
 ghost use Rattle.gp_machine.specs.Entries.{Entry, log_of, statement_count, transactions_in, versions_in};
 ghost use Rattle.gp_machine.specs.Event.{Line, after, target_of};
 ghost use Rattle.gp_machine.specs.HistorySpans.{as_of, state_spans};
+ghost use Rattle.gp_machine.specs.Precedence.{is_before};
 ghost use Rattle.gp_machine.specs.QuestionForms.{identified};
 ghost use Rattle.gp_machine.specs.Questions.{own_stop};
 ghost use Rattle.gp_machine.specs.Replayed.{replayed_state};
@@ -31,6 +34,10 @@ ghost use Rattle.gp_machine.specs.Unstopped.{IsUnstopped};
 ghost use Rattle.gp_dump.specs.Dumps.{Dump, dump_of};
 ghost use Rattle.gp_dump.specs.Rules.{WellFormed};
 ghost use Rattle.gp_dump.specs.WholeDumps.{IsDump};
+ghost use Rattle.gp_serial.specs.Anomalies.{cycles};
+ghost use Rattle.gp_serial.specs.Graphs.{least_cycle};
+ghost use Rattle.gp_serial.specs.LeastCycles.{IsCycleOf};
+ghost use Rattle.gp_serial.specs.Serializing.{by_number};
 ghost use Rattle.gp_semiring.specs.declared.rules.Rule.{Rule};
 ghost use Rattle.gp_semiring.specs.Values.{token_value};
 ghost use Rattle.gp_history.specs.ValueForms.{held_value_answer, value_answer};
@@ -38,6 +45,7 @@ ghost use Rattle.gp_versions.specs.declared.span.Span.{Span};
 ghost use Rattle.gp_versions.specs.Spans.{span_cmp};
 ghost use Rattle.gp_whatif.specs.Changed.{changed_log};
 ghost use Rattle.gp_whatif.specs.Replays.{IsCoherent, IsReplayable, stop_upto};
+ghost use Rattle.gp_ask.specs.AnomalyAnswers.{anomaly_answer};
 ghost use Rattle.gp_ask.specs.Answerable.{question_is_valid};
 ghost use Rattle.gp_ask.specs.Printed.{answer_to, held_to, query_to, what_if_held};
 ghost use Rattle.gp_ask.specs.Compared.{AnswersAsMade, compares_histories};
@@ -59,7 +67,8 @@ ghost use Rattle.gp_ask.specs.SerialAnswers.{serial_answer};
 ghost use Rattle.gp_ask.specs.SerialHistories.{IsTrue, RunsInCycle, RunsSerially};
 ghost use Rattle.gp_ask.specs.ShownWrites.{ShowsWrites};
 ghost use Rattle.gp_ask.specs.SqlAnswers.{AreStored, AsksQuestion};
-ghost use Rattle.gp_ask.specs.declared.answered.Answered.TheVariants.{Lines};
+ghost use Rattle.gp_ask.specs.declared.answered.AnomalyText.{AnomalyText};
+ghost use Rattle.gp_ask.specs.declared.answered.Answered.TheVariants.{Anomalies, Lines, Refused};
 ghost use Rattle.gp_ask.specs.declared.answered.Heading.TheVariants.{Cycle, Serial};
 
 use gp_algebra::annotations_commute;
@@ -72,6 +81,9 @@ use gp_machine::{
     unstopped_histories_answer_their_questions,
 };
 use gp_semiring::{Bool, Cost, Count, Level, Poly, PosBool, Semiring};
+use gp_serial::{
+    anomalies_begin_with_the_least_cycle, no_anomaly_without_a_cycle, pair_cycles_are_first,
+};
 use gp_sql::{
     queries_give_the_rows_of_programs, queries_of_programs_are_spelled,
     queries_of_programs_are_typed,
@@ -384,4 +396,30 @@ pub fn serial_answers_are_true()
     commits_publish_the_spans::<()>();
     changed_logs_are_coherent();
     a_version_has_one_row_of_an_identity()
+}
+
+/// What the answer to ANOMALIES says of a history, by its dump: each line of each cycle is true (`cycles`). A history is refused only for too many lines (`limited`).
+/// Of every dump, whether a history made it or not, there is none exactly where the relation has no cycle of transactions that committed (`none`), and the first is
+/// that of SERIAL (`least`).
+pub fn anomaly_answers_are_true()
+    ensures cycles { (lines : List Line) (texts : List AnomalyText)
+        → anomaly_answer (dump_of (after unannotated parameters start lines)) ≡ Anomalies texts
+        → AllByRecursion (λ (text : AnomalyText). RunsInCycle (after unannotated parameters start lines) text.steps) texts }
+    ensures limited { (lines : List Line) (refusal : Refusal)
+        → anomaly_answer (dump_of (after unannotated parameters start lines)) ≡ Refused refusal → refusal ≡ E27 }
+    ensures none { (dump : Dump) → IsDump dump
+        → (cycles (tables_in dump.entries) dump.entries (tables_changes 0 dump.tables) ≡ [])
+        ↔ ((other : List ℕ) → IsCycleOf (is_before (tables_in dump.entries) dump.entries (tables_changes 0 dump.tables)) (by_number dump.entries) other → ⊥) }
+    ensures least { (dump : Dump) → IsDump dump
+        → least_cycle (is_before (tables_in dump.entries) dump.entries (tables_changes 0 dump.tables)) (by_number dump.entries)
+        ≡ unwrap_or (slice_get (cycles (tables_in dump.entries) dump.entries (tables_changes 0 dump.tables)) 0) [] }
+{
+    pair_cycles_are_first();
+    no_anomaly_without_a_cycle();
+    anomalies_begin_with_the_least_cycle();
+    serial_orders_are_histories();
+    spans_hold_the_versions::<()>();
+    commits_publish_the_spans::<()>();
+    changed_logs_are_coherent();
+    a_version_has_one_row_of_an_identity();
 }

@@ -28,6 +28,7 @@
 //! ```
 #![tactic(auto)]
 
+mod anomalies;
 mod answered;
 mod answering;
 mod causes;
@@ -67,7 +68,7 @@ mod transactions;
 mod valid;
 mod values;
 
-pub use answered::{Answered, Heading, Sheet, Valued};
+pub use answered::{AnomalyText, Answered, Heading, Sheet, Valued};
 pub use answering::{answer, answer_by};
 pub use display::write_answer;
 pub use exporting::{answer_line, answer_line_in, asks_rows, write_answer_in, write_heading_in};
@@ -75,9 +76,9 @@ pub use format::Format;
 pub use gp_exec::{Backend, Plain};
 pub use keeping::KeptAnnotations;
 pub use laws::{
-    changed_histories_answer_their_questions, changed_rows_are_those_written,
-    commits_show_what_they_wrote, comparisons_answer_as_made_dumps, deltas_are_differences,
-    dumps_answer_as_changed_histories, histories_answer_as_their_dumps,
+    anomaly_answers_are_true, changed_histories_answer_their_questions,
+    changed_rows_are_those_written, commits_show_what_they_wrote, comparisons_answer_as_made_dumps,
+    deltas_are_differences, dumps_answer_as_changed_histories, histories_answer_as_their_dumps,
     histories_answer_with_any_programs, histories_are_isolated, intervals_agree_with_versions,
     programs_explain_their_questions, queries_ask_their_questions, read_questions_are_valid,
     replays_answer_as_their_histories, row_versions_are_stored, serial_answers_are_true,

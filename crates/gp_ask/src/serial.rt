@@ -151,7 +151,7 @@ fn step_line(alloc: Global, log: &Log, step: &Step<'_>) -> Result<Text, NoMemory
 }
 
 /// The lines of a cycle.
-fn cycle_lines(alloc: Global, log: &Log, steps: &[Step<'_>]) -> Result<Sequence<Text>, NoMemory>
+pub fn cycle_lines(alloc: Global, log: &Log, steps: &[Step<'_>]) -> Result<Sequence<Text>, NoMemory>
     ensures { IfOk result (λ lines. lines
         ≡ map (s.step_text (tables log.now) (entries log.now)) (map step_view steps.now)) }
 {
@@ -190,7 +190,7 @@ fn serial_lines(alloc: Global, log: &Log, found: &Serial<'_>) -> Result<Answered
 }
 
 /// The refusal, if there is no answer.
-fn unserialized(stop: SerialStop) -> Result<Answered, NoMemory>
+pub fn unserialized(stop: SerialStop) -> Result<Answered, NoMemory>
     ensures { IsUnserialized stop result }
 {
     match stop {

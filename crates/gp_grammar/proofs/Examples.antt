@@ -205,6 +205,10 @@ life : f.question_of (codes "history of conflicts where serial is null;") ≡ Ok
 unfolding is_utf8 chars lib.Utf8.encode lex.lexed lex.lexed_from lex.lexeme_at lex.word_at lex.reserved_word symbol_text lex.number_at lex.sign_at p.expect q.open_question q.history c.condition p.term p.term_within p.joined p.chain p.chain_within p.negation p.full_test p.factor p.column p.value_test cap.is_null
 life = refl
 
+anomalies_of_all : f.question_of (codes "Anomalies ;") ≡ Ok (y.bare y.anomalies)
+unfolding is_utf8 chars lib.Utf8.encode lex.lexed lex.lexed_from lex.lexeme_at lex.word_at lex.reserved_word symbol_text lex.number_at lex.sign_at p.expect q.open_question
+anomalies_of_all = refl
+
 when_there : f.question_of (codes "when select * from history") ≡ Ok (y.when
     ((record { items = y.star; from = (record { table = codes "history"; name = codes "history" }) ∷ []; cond = None }) ∷ []))
 unfolding is_utf8 chars lib.Utf8.encode lex.lexed lex.lexed_from lex.lexeme_at lex.word_at lex.reserved_word symbol_text lex.number_at lex.sign_at p.expect q.open_question q.when c.query c.block c.items c.item c.condition c.separated c.many c.repeat

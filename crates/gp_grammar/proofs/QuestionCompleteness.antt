@@ -473,6 +473,7 @@ bare-complete _ _ (g.changes t k) rest = refl
 bare-complete _ _ (g.commit_changes t) rest = refl
 bare-complete _ _ (g.conflicts t) rest = refl
 bare-complete _ _ g.serial rest = refl
+bare-complete _ _ g.anomalies rest = refl
 bare-complete _ _ g.check rest = refl
 
 open_question-complete : (a : Lexemes) (x : Question) → IsOpenQuestion a x → (rest : Lexemes) → EndsQuery rest → q.open_question (a ++ rest) ≡ Ok (capped_question x, rest)

@@ -255,12 +255,13 @@ module _ (t : Lexeme) (m m' : Lexemes) where
       (is_local-bind number _ is_local-number (λ x. is_local-ok (syntax.bare (syntax.conflicts x))))
       (local-word-all t m m' (codes "history") (expect_word (codes "of") q.history) q.from_when (is_local-expect (codes "of") q.history is_local-history)
       (local-next-all t m m' s.When q.when q.from_serial is_local-when
-      (local-word-all t m m' (codes "serial") (accept (syntax.bare syntax.serial)) q.from_check (is_local-ok (syntax.bare syntax.serial))
+      (local-word-all t m m' (codes "serial") (accept (syntax.bare syntax.serial)) q.from_anomalies (is_local-ok (syntax.bare syntax.serial))
+      (local-word-all t m m' (codes "anomalies") (accept (syntax.bare syntax.anomalies)) q.from_check (is_local-ok (syntax.bare syntax.anomalies))
       (local-word-all t m m' (codes "check") (accept (syntax.bare syntax.check)) q.from_diff (is_local-ok (syntax.bare syntax.check))
       (local-word-all t m m' (codes "diff") q.diff q.from_causes is_local-diff
       (local-word-all t m m' (codes "causes") (expect_word (codes "of") (q.asked_of syntax.causes q.kept)) q.from_what_if
       (is_local-expect (codes "of") (q.asked_of syntax.causes q.kept) (is_local-asked_of syntax.causes q.kept is_local-kept))
-      (local-word-all t m m' (codes "whatif") q.what_if q.from_explain is_local-what_if is_local-from_explain)))))))))))
+      (local-word-all t m m' (codes "whatif") q.what_if q.from_explain is_local-what_if is_local-from_explain))))))))))))
 
   pub local-question : IsLocal q.question
   local-question n = local-closed t m m' q.open_question n (is_local-open_question n)

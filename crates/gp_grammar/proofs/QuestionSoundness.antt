@@ -510,15 +510,17 @@ open_question-sound ts =
     (word-sound (codes "history") BuildsQuestion (expect_word (codes "of") q.history) q.from_when ts
     (λ ts1. expect_word-sound (codes "of") (λ b y. BuildsQuestion (Word (codes "history") ∷ b) y) q.history ts1 history-sound)
     (next-sound s.When BuildsQuestion q.when q.from_serial ts when-sound
-    (word-sound (codes "serial") BuildsQuestion (accept (syntax.bare syntax.serial)) q.from_check ts
+    (word-sound (codes "serial") BuildsQuestion (accept (syntax.bare syntax.serial)) q.from_anomalies ts
     (λ ts1. sound-ok _ ts1 (syntax.bare syntax.serial) (builds-bare _ _ g.serial))
+    (word-sound (codes "anomalies") BuildsQuestion (accept (syntax.bare syntax.anomalies)) q.from_check ts
+    (λ ts1. sound-ok _ ts1 (syntax.bare syntax.anomalies) (builds-bare _ _ g.anomalies))
     (word-sound (codes "check") BuildsQuestion (accept (syntax.bare syntax.check)) q.from_diff ts
     (λ ts1. sound-ok _ ts1 (syntax.bare syntax.check) (builds-bare _ _ g.check))
     (word-sound (codes "diff") BuildsQuestion q.diff q.from_causes ts diff-sound
     (word-sound (codes "causes") BuildsQuestion (expect_word (codes "of") (q.asked_of syntax.causes q.kept)) q.from_what_if ts
     (λ ts1. expect_word-sound (codes "of") (λ b y. BuildsQuestion (Word (codes "causes") ∷ b) y) (q.asked_of syntax.causes q.kept) ts1
     (asked_of-sound syntax.causes IsKept q.kept kept-sound (λ b y. BuildsQuestion (Word (codes "causes") ∷ Word (codes "of") ∷ b) y) causes))
-    (word-sound (codes "whatif") BuildsQuestion q.what_if q.from_explain ts what_if-sound (from_explain-sound ts))))))))))))
+    (word-sound (codes "whatif") BuildsQuestion q.what_if q.from_explain ts what_if-sound (from_explain-sound ts)))))))))))))
 
 pub question-sound : (ts : Lexemes) → Sound (Closed BuildsQuestion) ts (q.question ts)
 question-sound = closed-sound BuildsQuestion q.open_question open_question-sound

@@ -122,6 +122,7 @@ pub data IsBareQuestion : Lexemes → BareQuestion → Type 0 where
   commit_changes : (t : ℕ) → IsBareQuestion (Word (codes "changes") ∷ Number t ∷ Sign s.Commit ∷ []) (y.commit_changes t)
   conflicts : (t : ℕ) → IsBareQuestion (Word (codes "conflicts") ∷ Number t ∷ []) (y.conflicts t)
   serial : IsBareQuestion (Word (codes "serial") ∷ []) y.serial
+  anomalies : IsBareQuestion (Word (codes "anomalies") ∷ []) y.anomalies
   check : IsBareQuestion (Word (codes "check") ∷ []) y.check
 
 pub data IsOpenQuestion : Lexemes → Question → Type 0 where

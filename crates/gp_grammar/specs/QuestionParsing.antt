@@ -245,8 +245,11 @@ from_diff = where_word (codes "diff") diff from_causes
 abbrev pub from_check : Parser Question
 from_check = where_word (codes "check") (accept (y.bare y.check)) from_diff
 
+abbrev pub from_anomalies : Parser Question
+from_anomalies = where_word (codes "anomalies") (accept (y.bare y.anomalies)) from_check
+
 abbrev pub from_serial : Parser Question
-from_serial = where_word (codes "serial") (accept (y.bare y.serial)) from_check
+from_serial = where_word (codes "serial") (accept (y.bare y.serial)) from_anomalies
 
 abbrev pub from_when : Parser Question
 from_when = where_next s.When when from_serial

@@ -129,7 +129,8 @@ pub data Side : Type 0 where
   changed : List LogChange → Subject → Side
 
 -- A question without terms. `changes` and `commit_changes` ask for the rows that a statement or a commit changed, `conflicts` for those on which a
--- transaction met others, `serial` whether the transactions could have run one after another, `check` whether the dump is that of a history.
+-- transaction met others, `serial` whether the transactions could have run one after another, `anomalies` for all that kept them from it, `check` whether the
+-- dump is that of a history.
 pub data BareQuestion : Type 0 where
   transactions : BareQuestion
   log : ℕ → BareQuestion
@@ -137,7 +138,7 @@ pub data BareQuestion : Type 0 where
   changes : ℕ → ℕ → BareQuestion
   commit_changes : ℕ → BareQuestion
   conflicts : ℕ → BareQuestion
-  serial check : BareQuestion
+  serial anomalies check : BareQuestion
 
 -- A question. `history` asks for what changed the rows of a table on which a condition is true, `when` for the versions in which each row of a query is
 -- there, `diff` for the difference between the rows of two sides, `causes` for the statements without which the rows would be others. `what_if` asks of the

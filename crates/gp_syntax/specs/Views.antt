@@ -113,6 +113,7 @@ question_view (q.Conflicts t) = y.bare (y.conflicts t)
 question_view (q.History table cond) = y.history table (condition_view cond)
 question_view (q.When query) = y.when (query_view query)
 question_view q.Serial = y.bare y.serial
+question_view q.Anomalies = y.bare y.anomalies
 question_view q.Check = y.bare y.check
 question_view (q.Diff first second query) = y.diff (side_view first) (side_view second) (query_view query)
 question_view (q.Causes subject query) = y.causes (subject_view subject) (query_view query)

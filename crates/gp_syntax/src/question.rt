@@ -187,6 +187,8 @@ pub enum Question {
     },
     /// `SERIAL`: whether the transactions could have run one after another.
     Serial,
+    /// `ANOMALIES`: all that kept the transactions from running one after another.
+    Anomalies,
     /// `CHECK`: whether the dump is that of a history.
     Check,
     /// `DIFF`: how the rows of a query differ from one side to the other.

@@ -574,8 +574,11 @@ fn life_question(alloc: Global, lexemes: &[Lexeme]) -> Result<(Question, &[Lexem
     if let Some(rest) = strip(lexemes, Symbol::When) {
         return when_there(alloc, rest);
     }
-    match strip_word(lexemes, b"serial") {
-        Some(rest) => Ok((Question::Serial, rest)),
+    if let Some(rest) = strip_word(lexemes, b"serial") {
+        return Ok((Question::Serial, rest));
+    }
+    match strip_word(lexemes, b"anomalies") {
+        Some(rest) => Ok((Question::Anomalies, rest)),
         None => state_question(alloc, lexemes),
     }
 }

@@ -12,13 +12,14 @@ use Rattle.gp_base.specs.declared.refusal.Refusal.TheVariants.{E30}
 use Rattle.gp_base.specs.declared.table.Table.{Table}
 use Rattle.gp_csv.specs.Answers.{csv_text}
 use Rattle.gp_grammar.specs.Syntax as y
+use Rattle.gp_ask.specs.declared.answered.AnomalyText.{AnomalyText}
 use Rattle.gp_ask.specs.declared.answered.Answered.{Answered}
-use Rattle.gp_ask.specs.declared.answered.Answered.TheVariants.{Rows, Listed, Values, Program, Lines, Diff, Checked, Refused, Sheet}
+use Rattle.gp_ask.specs.declared.answered.Answered.TheVariants.{Rows, Listed, Values, Program, Lines, Anomalies, Diff, Checked, Refused, Sheet}
 use Rattle.gp_ask.specs.declared.format.Format.{Format}
 use Rattle.gp_ask.specs.declared.format.Format.TheVariants.{Text, Csv, Named, Sql}
 use Rattle.gp_ask.specs.Formats.{exported_records, sql_answer_text, sql_refusal, text_in}
 use Rattle.gp_ask.specs.QuestionFiles.{line_answer_in, line_answer_text}
-use Rattle.gp_ask.specs.Texts.{answer_text, checked_text, heading_word, listed_line, listed_text, provenance_text, signed_text, value_text}
+use Rattle.gp_ask.specs.Texts.{anomalies_heading, anomalies_text, anomaly_lines, answer_text, checked_text, heading_word, listed_line, listed_text, provenance_text, signed_text, step_line, value_text}
 use Rattle.gprom_cli.specs.declared.summary.Summary.{Summary}
 use Rattle.gprom_cli.specs.Call.{IsWholeLines, rounds_line}
 use Rattle.gprom_cli.specs.Generated.{Pieces, pieces_line, pieces_lines}
@@ -84,6 +85,21 @@ listed-ends number word texts =
     (behind word (codes " " ++ (count ++ (newline ++ (lines ++ []))))
     (behind (codes " ") (count ++ (newline ++ (lines ++ []))) (behind count (newline ++ (lines ++ [])) after))))
 
+step-ends : (text : List ℕ) → EndsLine (step_line text)
+step-ends text = behind (codes "    ") (text ++ (newline ++ [])) (behind text (newline ++ []) newline-ends)
+
+anomaly-ends : (anomaly : AnomalyText) → EndsLine (anomaly_lines anomaly)
+anomaly-ends anomaly =
+    then-lines (listed_line anomaly.title) (flat_map step_line anomaly.steps ++ []) (listed-line-ends anomaly.title)
+    (subst IsWholeLines (sym (append-nil (flat_map step_line anomaly.steps))) (all-lines step_line step-ends anomaly.steps))
+
+anomalies-ends : (number : ℕ) (anomalies : List AnomalyText) → EndsLine (anomalies_text number anomalies)
+anomalies-ends number anomalies =
+    let count = decimal (length anomalies) in
+    then-lines (anomalies_heading number (length anomalies)) (flat_map anomaly_lines anomalies)
+    (behind (decimal number) (codes " anomalies " ++ (count ++ (newline ++ []))) (behind (codes " anomalies ") (count ++ (newline ++ [])) (behind count (newline ++ []) newline-ends)))
+    (all-lines anomaly_lines anomaly-ends anomalies)
+
 checked-ends : (line : Option ℕ) → EndsLine (checked_text line)
 checked-ends None = behind (codes "history") newline newline-ends
 checked-ends (Some line) = behind (codes "differs at line ") (decimal line ++ (newline ++ [])) (behind (decimal line) (newline ++ []) newline-ends)
@@ -94,6 +110,7 @@ text-ends number (Sheet sheet) = numbered-ends number (rows_text sheet.rows) (ro
 text-ends number (Listed rows) = listed-ends number (codes "rows") (map provenance_text rows)
 text-ends number (Values rows) = listed-ends number (codes "rows") (map value_text rows)
 text-ends number (Lines heading texts) = listed-ends number (heading_word heading) texts
+text-ends number (Anomalies anomalies) = anomalies-ends number anomalies
 text-ends number (Program texts) = listed-ends number (codes "program") texts
 text-ends number (Diff rows) = listed-ends number (codes "diff") (map signed_text rows)
 text-ends number (Checked line) = numbered-ends number (checked_text line) (checked-ends line)
@@ -125,6 +142,7 @@ sql-ends number (Sheet sheet) = refusal-ends number E30
 sql-ends number (Listed rows) = refusal-ends number E30
 sql-ends number (Values rows) = refusal-ends number E30
 sql-ends number (Lines heading texts) = refusal-ends number E30
+sql-ends number (Anomalies anomalies) = refusal-ends number E30
 sql-ends number (Diff rows) = refusal-ends number E30
 sql-ends number (Checked line) = refusal-ends number E30
 

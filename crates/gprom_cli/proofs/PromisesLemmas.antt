@@ -1,10 +1,12 @@
 -- The promises of a call by its outcome and by laws, and what follows from them.
 use Rattle.std.proofs.Common.{◌≡◌, ◌≢◌, ℕ, ◌^◌, ◌<◌, ◌≤◌, ◌⊎◌, inl, inr, Bool, false, true, List, [], ◌∷◌, ◌++◌, length, map, Option, Some, None, Result, Ok, Err, codes, refl, sym, ap, ◌∙◌, subst, ⊎_elim}
-use Rattle.std.specs.Prelude.{AllPairs, Contains, filter}
+use Rattle.std.specs.Prelude.{◌↔◌, AllPairs, Contains, filter, slice_get, unwrap_or}
 use Rattle.std.specs.List.{AllByRecursion, flat_map}
 use Rattle.std.specs.List.Sorted.{IsPermutation, IsSorted}
 use Rattle.gp_base.specs.Annotated.{Annotations, monomials, unannotated}
 use Rattle.gp_base.specs.CatalogForms.{HaveDifferentNames}
+use Rattle.gp_base.specs.declared.refusal.Refusal.{Refusal}
+use Rattle.gp_base.specs.declared.refusal.Refusal.TheVariants.{E27}
 use Rattle.gp_base.specs.declared.table.Table.{Table}
 use Rattle.gp_base.specs.Order.{row_cmp}
 use Rattle.gp_base.specs.Tokens.{Monomial}
@@ -20,6 +22,7 @@ use Rattle.gp_machine.specs.Entries.{Entry, statement_count, transactions_in}
 use Rattle.gp_machine.specs.Event.{Line, after, event}
 use Rattle.gp_machine.specs.Questions.{own_stop}
 use Rattle.gp_machine.specs.Replayed.{replayed_state}
+use Rattle.gp_machine.specs.Precedence.{is_before}
 use Rattle.gp_machine.specs.RowChanges.{tables_changes}
 use Rattle.gp_machine.specs.State.{State, start}
 use Rattle.gp_plantext.specs.Spellable.{is_spellable}
@@ -27,7 +30,12 @@ use Rattle.gp_plantext.specs.Spelling.{program_text}
 use Rattle.gp_sql.specs.Spelled.{HaveOwnNames, SpellsQuery}
 use Rattle.gp_sql.specs.Sql.{With}
 use Rattle.gp_replay.specs.Differences.{IsOfHistory, difference}
+use Rattle.gp_serial.specs.Anomalies.{cycles}
 use Rattle.gp_serial.specs.Graphs.{is_cycle, least_cycle}
+use Rattle.gp_serial.specs.LeastCycles.{IsCycleOf}
+use Rattle.gp_serial.specs.PairCycles.{pair_cycles}
+use Rattle.gp_serial.specs.PairLaws.{ArePairCycles}
+use Rattle.gp_serial.specs.Serializing.{by_number}
 use Rattle.gp_syntax.specs.Lines.{script_lines}
 use Rattle.gp_script.specs.History.{IsScript, ReadLine, has_refusal, last_state, outcome_of, replies_text, replies_to, state_along}
 use Rattle.gp_script.specs.Scripts.{final_state, line_if_read, lines_as_read}
@@ -47,6 +55,7 @@ use Rattle.gp_csv.specs.Titled.{AreReloadable}
 use Rattle.gp_load.specs.Loading.{LoadsText, loaded_of}
 use Rattle.gp_load.specs.Reloading.{LoadsAgain}
 use Rattle.gp_ask.specs.declared.format.Format.{Format}
+use Rattle.gp_ask.specs.AnomalyAnswers.{anomaly_answer}
 use Rattle.gp_ask.specs.Answers.{answer_to, held_to}
 use Rattle.gp_ask.specs.Asking.{Programs}
 use Rattle.gp_ask.specs.Programs.{program_lines, programs_in, sql_lines}
@@ -62,7 +71,8 @@ use Rattle.gp_whatif.specs.Changed.{changed_log}
 use Rattle.gp_ask.specs.Questions.{AreQuestions, EachQuestion, ReadQuestion, is_refused}
 use Rattle.gp_ask.specs.SerialAnswers.{serial_answer}
 use Rattle.gp_ask.specs.SerialHistories.{IsTrue, RunsInCycle, RunsSerially}
-use Rattle.gp_ask.specs.declared.answered.Answered.TheVariants.{Lines}
+use Rattle.gp_ask.specs.declared.answered.AnomalyText.{AnomalyText}
+use Rattle.gp_ask.specs.declared.answered.Answered.TheVariants.{Anomalies, Lines, Refused}
 use Rattle.gp_ask.specs.declared.answered.Heading.TheVariants.{Cycle, Serial}
 use Rattle.gprom_cli.specs.declared.load.TheConstants.{MAX_SHEET_LENGTH}
 use Rattle.gprom_cli.specs.declared.status.Status.{Status}
@@ -187,6 +197,9 @@ pub record DumpLaws : Type 0 where
   pub cycle : (lines : List Line) (texts : List (List ℕ)) → serial_answer (dump_of (after unannotated parameters start lines)) ≡ Lines Cycle texts
       → RunsInCycle (after unannotated parameters start lines) texts
   pub changes : (lines : List Line) → AllByRecursion (IsTrue (after unannotated parameters start lines)) (tables_changes 0 (dump_of (after unannotated parameters start lines)).tables)
+  pub anomalies : (lines : List Line) (texts : List AnomalyText) → anomaly_answer (dump_of (after unannotated parameters start lines)) ≡ Anomalies texts
+      → AllByRecursion (λ (text : AnomalyText). RunsInCycle (after unannotated parameters start lines) text.steps) texts
+  pub limited : (lines : List Line) (refusal : Refusal) → anomaly_answer (dump_of (after unannotated parameters start lines)) ≡ Refused refusal → refusal ≡ E27
   pub answered : (lines : List Line) → is_refused (serial_answer (dump_of (after unannotated parameters start lines))) ≡ false
   pub unstopped : (lines : List Line) (t k : ℕ) → 0 < t → t ≤ transactions_in (after monomials parameters start lines).entries
       → k ≤ statement_count t (after monomials parameters start lines).entries
@@ -196,6 +209,11 @@ pub record DumpLaws : Type 0 where
   pub differences : (rows others : List (List Cell)) → IsSorted row_cmp rows → IsSorted row_cmp others → IsDifference rows others (delta rows others)
   pub shortest : (is_before : ℕ → ℕ → Bool) (all other : List ℕ) → AllPairs (λ a b. a < b) all → least_cycle is_before all ≢ []
       → is_cycle is_before other ≡ true → ((t : ℕ) → Contains other t → Contains all t) → length (least_cycle is_before all) ≤ length other
+  pub pairs : (is_before goes_back : ℕ → ℕ → Bool) (all : List ℕ) → AllPairs (λ a b. a < b) all → ArePairCycles is_before all goes_back (pair_cycles is_before all goes_back)
+  pub none : (dump : Dump) → IsDump dump → (cycles (tables_in dump.entries) dump.entries (tables_changes 0 dump.tables) ≡ [])
+      ↔ ((other : List ℕ) → IsCycleOf (is_before (tables_in dump.entries) dump.entries (tables_changes 0 dump.tables)) (by_number dump.entries) other → ⊥)
+  pub least : (dump : Dump) → IsDump dump → least_cycle (is_before (tables_in dump.entries) dump.entries (tables_changes 0 dump.tables)) (by_number dump.entries)
+      ≡ unwrap_or (slice_get (cycles (tables_in dump.entries) dump.entries (tables_changes 0 dump.tables)) 0) []
 
 -- of a state of a script, by its lines
 by-lines : (P : State (Unit {0}) → Type 0) (script : List ℕ) (lines : List ReadLine) → IsScript script lines → P (final_state unannotated script) → P (last_state unannotated lines)
@@ -235,6 +253,10 @@ promised laws call has = record {
   cycle = λ lines texts. subst (λ (state : State (Unit {0})). serial_answer (dump_of state) ≡ Lines Cycle texts → RunsInCycle state texts) (sym (state-taken unannotated lines start))
       (laws.cycle (taken lines) texts);
   changes = λ lines. subst (λ (state : State (Unit {0})). AllByRecursion (IsTrue state) (tables_changes 0 (dump_of state).tables)) (sym (state-taken unannotated lines start)) (laws.changes (taken lines));
+  anomalies = λ lines texts. subst (λ (state : State (Unit {0})). anomaly_answer (dump_of state) ≡ Anomalies texts → AllByRecursion (λ (text : AnomalyText). RunsInCycle state text.steps) texts)
+      (sym (state-taken unannotated lines start)) (laws.anomalies (taken lines) texts);
+  limited = λ lines refusal. subst (λ (state : State (Unit {0})). anomaly_answer (dump_of state) ≡ Refused refusal → refusal ≡ E27) (sym (state-taken unannotated lines start))
+      (laws.limited (taken lines) refusal);
   answered = λ lines. subst (λ (state : State (Unit {0})). is_refused (serial_answer (dump_of state)) ≡ false) (sym (state-taken unannotated lines start)) (laws.answered (taken lines));
   unstopped = λ lines t k. subst
       (λ (state : State Monomial). 0 < t → t ≤ transactions_in state.entries → k ≤ statement_count t state.entries → own_stop monomials parameters state.entries (y.after t k) state.committed ≡ None)
@@ -242,6 +264,9 @@ promised laws call has = record {
   versions = laws.versions;
   differences = laws.differences;
   shortest = laws.shortest;
+  pairs = laws.pairs;
+  none = λ bytes contents formed. laws.none contents (dumps.whole-text bytes contents formed).rules;
+  least = λ bytes contents formed. laws.least contents (dumps.whole-text bytes contents formed).rules;
   lengths = refl;
   shapes = refl;
   counts = refl;

@@ -53,7 +53,9 @@ use Rattle.gp_ask.specs.declared.answered.Heading.{Heading}
 use Rattle.gp_ask.specs.declared.answered.Heading.TheVariants.{Changes, History, When}
 use Rattle.gp_ask.specs.ChangeForms.{changes_over, version_changes}
 use Rattle.gp_machine.specs.RowChanges.{tables_changes}
+use Rattle.gp_serial.specs.Anomalies.{Anomalies, Found, Refused as NotFound, anomalies_of}
 use Rattle.gp_serial.specs.Serializing.{InCycle, InOrder, Serial, Undecided, runs_refusal, serial_of}
+use Rattle.gp_ask.specs.AnomalyAnswers.{answered_anomalies}
 use Rattle.gp_ask.specs.SerialAnswers.{answered_serial}
 use Rattle.gp_ask.specs.Changes.{Change, change_texts}
 use Rattle.gp_ask.specs.HistoryForms.{dump_history}
@@ -294,6 +296,10 @@ few-serial tables entries (InOrder order) = omega arith
 few-serial tables entries (InCycle steps) = omega arith
 few-serial tables entries Undecided = omega arith
 
+few-anomalies : (tables : List Table) (entries : List Entry) (anomalies : Anomalies) → HasFew (answered_anomalies tables entries anomalies)
+few-anomalies tables entries (Found found) = omega arith
+few-anomalies tables entries (NotFound refusal) = omega arith
+
 -- ---- what became of rows, and when they were there
 
 few-texts : (heading : Heading) (texts : List (List ℕ)) (over : Bool) → HasFew (cond over (Refused E27) (Lines heading texts))
@@ -324,6 +330,9 @@ few-answer dump (y.bare y.serial) =
     few-unless (runs_refusal parameters dump.entries (table_spans dump.tables) (versions_in dump.entries)) _
     (few-serial (tables_in dump.entries) dump.entries
     (serial_of (tables_in dump.entries) dump.entries (tables_changes 0 dump.tables) parameters (table_spans dump.tables)))
+few-answer dump (y.bare y.anomalies) =
+    few-anomalies (tables_in dump.entries) dump.entries
+    (anomalies_of (tables_in dump.entries) dump.entries (tables_changes 0 dump.tables) parameters (table_spans dump.tables))
 few-answer dump (y.bare y.check) = omega arith
 few-answer dump (y.diff first second query) =
     few-unless (mixed_refusal (unmade_refusal dump) dump.entries first second query) _

@@ -3,11 +3,13 @@
 -- What follows for each command and each status is in `Consequences`, and for the files that a shelf has in `OverFiles`, both by laws.
 use Rattle.std.specs.List.{AllByRecursion}
 use Rattle.std.specs.List.Sorted.{IsPermutation, IsSorted}
-use Rattle.std.specs.Prelude.{◌≡◌, ◌≢◌, ℕ, Bool, false, true, ◌^◌, ◌<◌, ◌≤◌, AllPairs, Contains, List, [], ◌∷◌, filter, length, map, None, Result, Ok, Err, codes}
+use Rattle.std.specs.Prelude.{◌≡◌, ◌≢◌, ◌↔◌, ℕ, Bool, false, true, ◌^◌, ◌<◌, ◌≤◌, AllPairs, Contains, List, [], ◌∷◌, filter, length, map, slice_get, unwrap_or, None, Result, Ok, Err, codes}
 use Rattle.gp_base.specs.Annotated.{monomials, unannotated}
 use Rattle.gp_base.specs.Catalogs.{table_names}
 use Rattle.gp_base.specs.declared.cell.Cell.{Cell}
 use Rattle.gp_base.specs.declared.name.TheConstants.{MAX_NAME_LENGTH}
+use Rattle.gp_base.specs.declared.refusal.Refusal.{Refusal}
+use Rattle.gp_base.specs.declared.refusal.Refusal.TheVariants.{E27}
 use Rattle.gp_base.specs.declared.table.Table.{Table}
 use Rattle.gp_base.specs.declared.text.TheConstants.{MAX_TEXT_LENGTH}
 use Rattle.gp_base.specs.Order.{row_cmp}
@@ -33,13 +35,21 @@ use Rattle.gp_machine.specs.Entries.{Entry, statement_count, transactions_in}
 use Rattle.gp_machine.specs.Event.{after}
 use Rattle.gp_machine.specs.Questions.{own_stop}
 use Rattle.gp_machine.specs.Replayed.{replayed_state}
+use Rattle.gp_machine.specs.Precedence.{is_before}
 use Rattle.gp_machine.specs.RowChanges.{tables_changes}
 use Rattle.gp_machine.specs.State.{start}
 use Rattle.gp_csv.specs.Titled.{AreReloadable}
 use Rattle.gp_load.specs.Reloading.{LoadsAgain}
 use Rattle.gp_replay.specs.Differences.{IsOfHistory, difference}
+use Rattle.gp_serial.specs.Anomalies.{cycles}
 use Rattle.gp_serial.specs.Graphs.{is_cycle, least_cycle}
-use Rattle.gp_ask.specs.declared.answered.Answered.TheVariants.{Lines, Sheet}
+use Rattle.gp_serial.specs.LeastCycles.{IsCycleOf}
+use Rattle.gp_serial.specs.PairCycles.{pair_cycles}
+use Rattle.gp_serial.specs.PairLaws.{ArePairCycles}
+use Rattle.gp_serial.specs.Serializing.{by_number}
+use Rattle.gp_ask.specs.declared.answered.AnomalyText.{AnomalyText}
+use Rattle.gp_ask.specs.declared.answered.Answered.TheVariants.{Anomalies, Lines, Refused, Sheet}
+use Rattle.gp_ask.specs.AnomalyAnswers.{anomaly_answer}
 use Rattle.gp_ask.specs.Answers.{answer_to, held_to}
 use Rattle.gp_ask.specs.declared.format.Format.{Format}
 use Rattle.gp_ask.specs.declared.format.Format.TheVariants.{Text, Named, Sql}
@@ -123,6 +133,10 @@ pub record Promises (call : Call) : Type 0 where
   pub cycle : (lines : List ReadLine) (texts : List (List ℕ)) → serial_answer (dump_of (last_state unannotated lines)) ≡ Lines Cycle texts → RunsInCycle (last_state unannotated lines) texts
   -- Each row that the row versions of a history show as changed by a commit was written by it, with these cells in the version before and in its own.
   pub changes : (lines : List ReadLine) → AllByRecursion (IsTrue (last_state unannotated lines)) (tables_changes 0 (dump_of (last_state unannotated lines)).tables)
+  -- So is each line of each cycle of ANOMALIES, which a history refuses only for too many lines.
+  pub anomalies : (lines : List ReadLine) (texts : List AnomalyText) → anomaly_answer (dump_of (last_state unannotated lines)) ≡ Anomalies texts
+      → AllByRecursion (λ (text : AnomalyText). RunsInCycle (last_state unannotated lines) text.steps) texts
+  pub limited : (lines : List ReadLine) (refusal : Refusal) → anomaly_answer (dump_of (last_state unannotated lines)) ≡ Refused refusal → refusal ≡ E27
   -- No history refuses SERIAL, and no statement of any of its transactions passes a limit where it is run again, as for SAW. So E25 and E26 come only of changed
   -- histories.
   pub answered : (lines : List ReadLine) → is_refused (serial_answer (dump_of (last_state unannotated lines))) ≡ false
@@ -135,6 +149,15 @@ pub record Promises (call : Call) : Type 0 where
   pub differences : (rows others : List (List Cell)) → IsSorted row_cmp rows → IsSorted row_cmp others → IsDifference rows others (delta rows others)
   pub shortest : (is_before : ℕ → ℕ → Bool) (all other : List ℕ) → AllPairs (λ a b. a < b) all → least_cycle is_before all ≢ []
       → is_cycle is_before other ≡ true → ((t : ℕ) → Contains other t → Contains all t) → length (least_cycle is_before all) ≤ length other
+  -- The cycles of ANOMALIES are what they are called, for whatever relation: each is the first of the shortest ones through a pair that goes back, each such pair on a cycle
+  -- stands in one of them, and each occurs once. Of every dump there is none exactly where the transactions have no cycle, and the first is that of SERIAL.
+  pub pairs : (is_before goes_back : ℕ → ℕ → Bool) (all : List ℕ) → AllPairs (λ a b. a < b) all → ArePairCycles is_before all goes_back (pair_cycles is_before all goes_back)
+  pub none : (bytes : List ℕ) (contents : Dump) → WellFormed bytes contents
+      → (cycles (tables_in contents.entries) contents.entries (tables_changes 0 contents.tables) ≡ [])
+      ↔ ((other : List ℕ) → IsCycleOf (is_before (tables_in contents.entries) contents.entries (tables_changes 0 contents.tables)) (by_number contents.entries) other → ⊥)
+  pub least : (bytes : List ℕ) (contents : Dump) → WellFormed bytes contents
+      → least_cycle (is_before (tables_in contents.entries) contents.entries (tables_changes 0 contents.tables)) (by_number contents.entries)
+      ≡ unwrap_or (slice_get (cycles (tables_in contents.entries) contents.entries (tables_changes 0 contents.tables)) 0) []
   -- The numbers of the limits, which the definitions take from the code. The bytes of a name, a text, a line, a script, a sheet and a dump, and the rounds of `gen`.
   pub lengths : (MAX_NAME_LENGTH ∷ MAX_TEXT_LENGTH ∷ MAX_LINE_LENGTH ∷ MAX_SCRIPT_LENGTH ∷ MAX_SHEET_LENGTH ∷ MAX_DUMP_LENGTH ∷ MAX_ROUNDS ∷ [])
       ≡ 30 ∷ 255 ∷ 4096 ∷ 16777216 ∷ 16777216 ∷ 67108864 ∷ 400 ∷ []

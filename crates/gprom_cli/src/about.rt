@@ -53,6 +53,7 @@ Questions, where QUERY is a SELECT:
   WHATIF DROP 2 1 OF AS OF 3 QUERY, DIFF AS OF 2 TO AS OF 3 QUERY, CAUSES OF AS OF 3 QUERY
   WHEN QUERY: in which versions each row is an answer.
   SERIAL: whether the transactions could have run one after another.
+  ANOMALIES: what kept them from it, by name: lost updates, read and write skew.
   CHECK: whether DUMP is what its lines make. Ask this first of a dump from others.
 
 Exit status:

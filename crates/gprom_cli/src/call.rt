@@ -9,14 +9,15 @@ ghost use Rattle.gprom_cli.specs.Status.{exit_number};
 use crate::execute::execute;
 use crate::laws::{dumps_of_histories_are_known, scripts_have_well_formed_dumps};
 use gp_ask::{
-    comparisons_answer_as_made_dumps, deltas_are_differences, histories_are_isolated,
-    intervals_agree_with_versions, programs_explain_their_questions, queries_ask_their_questions,
-    row_versions_are_stored, serial_answers_are_true, statements_of_histories_do_not_stop,
+    anomaly_answers_are_true, comparisons_answer_as_made_dumps, deltas_are_differences,
+    histories_are_isolated, intervals_agree_with_versions, programs_explain_their_questions,
+    queries_ask_their_questions, row_versions_are_stored, serial_answers_are_true,
+    statements_of_histories_do_not_stop,
 };
 use gp_io::{Shelf, Sink};
 use gp_load::exported_sheets_load_again;
 use gp_plantext::texts_are_read_again;
-use gp_serial::least_cycles_are_shortest;
+use gp_serial::{least_cycles_are_shortest, pair_cycles_are_first};
 use gp_sql::texts_spell_one_query;
 use std::alloc::Global;
 
@@ -54,9 +55,11 @@ pub fn gprom<H: Shelf, K: Sink>(alloc: Global, args: &[String], shelf: &mut H, o
     comparisons_answer_as_made_dumps();
     histories_are_isolated();
     serial_answers_are_true();
+    anomaly_answers_are_true();
     statements_of_histories_do_not_stop();
     intervals_agree_with_versions();
     deltas_are_differences();
     least_cycles_are_shortest();
+    pair_cycles_are_first();
     execute(alloc, args, shelf, out).number()
 }

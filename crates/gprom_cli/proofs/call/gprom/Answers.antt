@@ -14,6 +14,7 @@ returns g c =
     let histories = c.dumps_of_histories_are_known.ensures in
     let isolated = c.histories_are_isolated.ensures in
     let serial = c.serial_answers_are_true.ensures in
+    let anomalies = c.anomaly_answers_are_true.ensures in
     let deltas = c.deltas_are_differences.ensures in
     let call : Call = record {
       command = command_of (map string_bytes c.args.args.now);
@@ -42,6 +43,8 @@ returns g c =
       serial = serial.serial;
       cycle = serial.cycle;
       changes = serial.changes;
+      anomalies = anomalies.cycles;
+      limited = anomalies.limited;
       answered = serial.answered;
       unstopped = c.statements_of_histories_do_not_stop.ensures;
       versions = c.intervals_agree_with_versions.ensures.bags;
@@ -53,6 +56,9 @@ returns g c =
       shortest = λ is_before all other up some closes among.
           let is : IsCycleOf is_before all other = record { closes = closes; among = among } in
           (c.least_cycles_are_shortest.ensures is_before all up some).shortest other is;
+      pairs = c.pair_cycles_are_first.ensures;
+      none = anomalies.none;
+      least = anomalies.least;
     })
     call ends.outcome in
     (call, refl, ends.grown, refl, refl, c.number.ensures, promises)
