@@ -44,6 +44,7 @@ SLOT = 'bridge'
 OTHERS = "backend_type = 'client backend' AND pid NOT IN (pg_backend_pid(), {})"
 UNLOGGED = '-c log_min_duration_statement=-1'
 CHANGES = f"SELECT data FROM pg_logical_slot_get_changes('{SLOT}', NULL, NULL, 'include-timestamp', 'on')"
+TAIL = 1 << 16                  # bytes at the end of the log in which a mark is looked for
 UNPRIVILEGED = ('postgres', 'nobody')           # whom root starts the server as
 
 
@@ -85,14 +86,16 @@ class Cluster:
             os.chown(self.folder, self.user.pw_uid, self.user.pw_gid)
         self.read = self.captured = 0                   # how many bytes of the log and of the capture have been taken
         self.library, self.missing = None, ''           # of the extension, or why it could not be built
+        self.unseen = ''                                # options of a session of which nothing is in the log or the capture
         self.has_wal2json = os.path.exists(f'{os.path.dirname(self.programs)}/lib/wal2json.so')
 
-    def command(self, program, *arguments, environment=None):
-        """Runs one of the server's programs as the user that the server belongs to, and gives its output."""
+    def command(self, program, *arguments, environment=None, output=None):
+        """Runs one of the server's programs as the user that the server belongs to, and gives its output, or writes it to a file."""
         done = subprocess.run([*self.prefix, f'{self.programs}/{program}', *arguments], cwd='/', env={**os.environ, **(environment or {})},
-                              stdin=subprocess.DEVNULL, stdout=subprocess.PIPE, stderr=subprocess.STDOUT, text=True, check=False)
+                              stdin=subprocess.DEVNULL, stdout=output or subprocess.PIPE, stderr=subprocess.PIPE if output else subprocess.STDOUT,
+                              text=True, check=False)
         if done.returncode:
-            raise RuntimeError(f'{program}: {done.stdout.strip()}')
+            raise RuntimeError(f'{program}: {(done.stderr or done.stdout).strip()}')
         return done.stdout
 
     def __enter__(self):
@@ -106,8 +109,8 @@ class Cluster:
                 file.write(PLUGINS if self.has_wal2json and 'output_plugin_libraries' in self.command('postgres', '--describe-config') else '')
             self.command('pg_ctl', '-D', self.data, '-w', '-t', '120', '-l', f'{self.folder}/start.log', 'start')
             self.control = self.connect()
-            unseen = f'{UNLOGGED} -c gprom_capture.enabled=off' if self.library else UNLOGGED
-            self.watcher = self.connect(options=unseen)
+            self.unseen = f'{UNLOGGED} -c gprom_capture.enabled=off' if self.library else UNLOGGED
+            self.watcher = self.connect(options=self.unseen)
             if not self.is_plain:
                 self.control.execute(f"SELECT pg_create_logical_replication_slot('{SLOT}', 'test_decoding')")
         except BaseException:
@@ -156,30 +159,51 @@ class Cluster:
             time.sleep(0.02)
         raise TimeoutError('a session of the server does not end')
 
-    def take_log(self, mark):
-        """The CSV log since this was asked the last time. The collector writes it a little later than the statements end."""
+    def log_part(self, mark):
+        """(file, begin, end) of the CSV log since this was asked the last time. The collector writes it a little later than the statements end."""
         self.control.execute(f"SELECT '{mark}'")
         [file] = glob.glob(f'{self.folder}/log/*.csv')
         for _ in range(3000):
             with open(file, 'rb') as opened:
-                opened.seek(self.read)
+                opened.seek(max(self.read, os.path.getsize(file) - TAIL))
                 text = opened.read()
+                end = opened.tell()
             if f"SELECT '{mark}'".encode() in text and text.endswith(b'\n'):
-                self.read += len(text)
-                return text
+                begin, self.read = self.read, end
+                return file, begin, end
             time.sleep(0.02)
         raise TimeoutError('the log of the server does not go on')
+
+    def take_log(self, mark):
+        """The text of that part."""
+        file, begin, end = self.log_part(mark)
+        with open(file, 'rb') as opened:
+            opened.seek(begin)
+            return opened.read(end - begin)
 
     def take_changes(self):
         """The lines of the slot since this was asked the last time."""
         return ''.join(data + '\n' for data, in self.control.execute(CHANGES).rows)
 
+    def copy_changes(self, file, slot=SLOT, options=('include-timestamp=on',)):
+        """Writes these lines, of this slot or another one, to a file, however many they are."""
+        [(end,)] = self.watcher.execute('SELECT pg_current_wal_flush_lsn()').rows
+        words = [word for option in options for word in ('-o', option)]
+        with open(file, 'wb') as output:
+            self.command('pg_recvlogical', '-h', self.folder, '-U', 'postgres', '-d', 'postgres', '-S', slot, '--start', '--no-loop', '--endpos', end,
+                         *words, '-f', '-', output=output)
+
     def take_capture(self):
         """The lines of the capture since this was asked the last time, or None without the extension."""
         if self.library is None:
             return None
-        with open(f'{self.data}/gprom_capture.jsonl', 'rb') as opened:
-            opened.seek(self.captured)
-            text = opened.read()
-        self.captured += len(text)
-        return text
+        file, begin, end = self.capture_part()
+        with open(file, 'rb') as opened:
+            opened.seek(begin)
+            return opened.read(end - begin)
+
+    def capture_part(self):
+        """(file, begin, end) of these lines."""
+        file = f'{self.data}/gprom_capture.jsonl'
+        begin, self.captured = self.captured, os.path.getsize(file)
+        return file, begin, self.captured

@@ -11,22 +11,26 @@ from functools import partial
 
 from bridge import lacks
 
-from . import bench, events, workload
+from . import bench, events, moments as known, workload
 from .judge import CAPTURE, HERE, LOG, ask, call, verified
 from .replay import Begun, Replay
 from .window import record
 
 ACCOUNTS, CLIENTS = 20_000, 3                           # gprom holds 10,000 rows of a table
 KEY, GIVES = 4711, {'ann': 100, 'bob': 250}             # the account of the incident, and what each adds to what both have read
+SLOW_KEY, SLOW_GIVES = 1234, {'cat': 7, 'dan': 70}      # the same of an incident that lasts long: cat begins first and writes last
+SLOW_FROM, SLOW_SHARE, SLOW_LEAST = 0.05, 0.1, 1000     # when it begins, and which share of all transactions it lasts, or how many
 INDEXED = {f'enable_{way}': 'on' for way in ('indexscan', 'indexonlyscan', 'bitmapscan')}
 ROW, GUIDE = f'pgbench_accounts:{KEY}', os.path.normpath(f'{HERE}/../../docs/GUIDE.md')
-USERS = '''DO $$ BEGIN CREATE ROLE ann LOGIN SUPERUSER; CREATE ROLE bob LOGIN SUPERUSER; EXCEPTION WHEN duplicate_object THEN NULL; END $$'''
+USERS = 'DO $$ BEGIN ' + ' '.join(f'CREATE ROLE {name} LOGIN SUPERUSER;' for name in (*GIVES, *SLOW_GIVES)) + \
+    ' EXCEPTION WHEN duplicate_object THEN NULL; END $$'
 BENCH_KEYS = {'pgbench_accounts': 'aid', 'pgbench_tellers': 'tid', 'pgbench_branches': 'bid'}
 WORK_KEYS = {'acct': 'id', 'item': 'id'}
 JSON, JSON_SLOT, EVENTS = 'slot.wal2json', 'json', 'slot.debezium'
-JSON_OPTIONS = "'format-version', '2', 'include-xids', 'on', 'include-timestamp', 'on'"
+JSON_OPTIONS = ('format-version=2', 'include-xids=on', 'include-timestamp=on')
 CUT = re.compile('began before the window|does not see all that was committed before the window')
 BESIDE = 'values that the server computed'              # of a transaction that is open where the window ends
+FAULTS = 2                                              # changes of folded transactions that are made others, at least
 FEW, SHARE = 2, 50                                      # transactions at the edges of a window, or one in so many, may be told as not covered
 FOUND = re.compile(ROW + r'@(\d+)\t[-\d]+T[:.\d]+\t(\S+)\tUPDATE abalance (-?\d+) -> (-?\d+)')
 
@@ -38,6 +42,8 @@ class Long:
     keys: dict[str, str]
     has_json: bool
     read: dict[str, int] = field(default_factory=dict)
+    slow: dict[str, object] = field(default_factory=dict)       # the sessions of the slow incident
+    moments: list[known.Moment] = field(default_factory=list)
 
     def given(self, number):
         """The tables whose rows a window of this number gets: by turns all, and those alone that have no key, of which equal rows are told apart by nothing."""
@@ -65,29 +71,68 @@ def with_json(cluster, window, work):
     session.execute(f"SELECT pg_create_logical_replication_slot('{JSON_SLOT}', 'wal2json')")
     try:
         work(cluster)
-        changes = session.execute(f"SELECT data FROM pg_logical_slot_get_changes('{JSON_SLOT}', NULL, NULL, {JSON_OPTIONS})").rows
-        window.save(JSON, ''.join(data + '\n' for data, in changes))
+        cluster.copy_changes(window.path(JSON), JSON_SLOT, JSON_OPTIONS)
     finally:
         session.execute(f"SELECT pg_drop_replication_slot('{JSON_SLOT}')")
 
 
-def record_bench(cluster, window, transactions):
-    """Records pgbench, with the incident when half is done."""
+def record_bench(cluster, window, transactions, count, seed):
+    """Records pgbench, with the incident when half is done, and at random moments what the server's rows are."""
     found = Long(window, BENCH_KEYS, cluster.has_wal2json)
     cluster.control.execute(USERS)
     cluster.use(INDEXED)
-    record(cluster, window, bench.setup(ACCOUNTS), lambda _: with_json(cluster, window, partial(bench_work, transactions=transactions, found=found)))
+    chance = random.Random(seed)
+    due = [(chance.random() * 0.95, take_moment) for _ in range(count)] + [(0.5, take_incident), (SLOW_FROM, begin_slowly)]
+    due.append((SLOW_FROM + max(SLOW_SHARE, min(0.5, SLOW_LEAST / transactions)), end_slowly))
+    work = partial(bench_work, transactions=transactions, found=found, due=sorted(due, key=lambda pair: pair[0]))
+    record(cluster, window, bench.setup(ACCOUNTS), lambda _: with_json(cluster, window, work), is_long=True)
     return found
 
 
-def bench_work(cluster, transactions, found):
+def bench_work(cluster, transactions, found, due):
     run = partial(bench.run, cluster, transactions // CLIENTS, 'simple', 'read committed', seed=7, accounts=ACCOUNTS, clients=CLIENTS)
+    first = next_xid(cluster)
     with ThreadPoolExecutor(1) as pool:
         running = pool.submit(run)
-        while not running.done() and int(cluster.watcher.execute('SELECT count(*) FROM pgbench_history').rows[0][0]) < transactions // 2:
-            time.sleep(0.05)
-        found.read |= incident(cluster)
+        for share, act in due:
+            while not running.done() and next_xid(cluster) - first < share * transactions:
+                time.sleep(0.02)
+            act(cluster, found)
         running.result()
+
+
+def next_xid(cluster):
+    """The xid of the next transaction that writes: each one of pgbench has one."""
+    return int(cluster.watcher.execute('SELECT pg_snapshot_xmax(pg_current_snapshot())').rows[0][0])
+
+
+def take_moment(cluster, found):
+    found.moments.append(known.take(cluster, found.window))
+
+
+def take_incident(cluster, found):
+    found.read |= incident(cluster)
+
+
+def begin_slowly(cluster, found):
+    """Both read the same balance, and dan writes it."""
+    for name in SLOW_GIVES:
+        found.slow[name] = session = cluster.connect(user=name)
+        session.execute('BEGIN')
+        found.read[name] = int(session.execute(f'SELECT abalance FROM pgbench_accounts WHERE aid = {SLOW_KEY}').rows[0][0])
+    write_slowly(found, 'dan')
+
+
+def end_slowly(_, found):
+    """cat writes what it read long before, with its own amount more."""
+    write_slowly(found, 'cat')
+
+
+def write_slowly(found, name):
+    session = found.slow.pop(name)
+    session.execute(f'UPDATE pgbench_accounts SET abalance = {found.read[name] + SLOW_GIVES[name]} WHERE aid = {SLOW_KEY}')
+    session.execute('COMMIT')
+    session.close()
 
 
 def incident(cluster):
@@ -158,6 +203,52 @@ def check_incident(found, gprom, source):
         failures.append(f"bob saw {rows}, where the server gave him {found.read['bob']}")
     if not all(any(f' {value},' in version for version in versions) for value in wanted.values()):
         failures.append(f'HISTORY OF has {versions}, where {wanted} were written')
+    return failures
+
+
+def check_slow(found, gprom, source):
+    """What is wrong with the incident that lasts longer than a window may be: those that have nothing to do with it are folded, and all others the same."""
+    window, out, row = found.window, f'{source.out}-slow', f'pgbench_accounts:{SLOW_KEY}'
+    tables = ['--tables', 'tables.sql', '--slot', 'slot.txt']
+    by = [[source.file, out], ['--log', source.file]] if source is LOG else [['--capture', source.file, out], ['--capture', source.file]]
+    listed = [line.split('\t') for line in call_in(window, ['find', row, *tables, *by[1]], (0,))]
+    xids = {line[2]: line[0].partition('@')[2] for line in listed if line[2] in SLOW_GIVES}
+    call_in(window, ['convert', *by[0], *tables, '--around', f"{row}@{xids['cat']}"], (0,))
+    verdicts, last = verified(window, gprom, out)
+    failures = [str(verdict) for verdict in unexpected(verdicts)]
+    numbers = {verdict.xid: verdict.transaction for verdict in verdicts if verdict.verdict == 'same'}
+    if missing := [name for name, xid in xids.items() if xid not in numbers]:
+        return [*failures, f'{missing} not same in the window of {len(verdicts)} transactions: {last}']
+    told = re.search(r'^0\t(\d+) transactions of the slot are folded', open_text(window.path(f'{out}.left')), re.M)
+    if not told or int(told[1]) < SLOW_LEAST // 2 or 'others are folded into' not in last:
+        failures.append(f'{told and told[0]!r} is told, and {last}')
+    (_, rows), (_, versions) = ask(gprom, window.path(f'{out}.dump'), [
+        f"SAW {numbers[xids['cat']]} AFTER 1 SELECT abalance FROM pgbench_accounts WHERE aid = {SLOW_KEY}",
+        f'HISTORY OF pgbench_accounts WHERE aid = {SLOW_KEY}'])
+    wanted = {name: found.read[name] + gives for name, gives in SLOW_GIVES.items()}
+    if rows != [str(found.read['cat'])] or not all(any(f' {value},' in version for version in versions) for value in wanted.values()):
+        failures.append(f"cat saw {rows}, where the server gave {found.read['cat']}, and HISTORY OF has {versions}")
+    return failures + check_faults_in_folds(window, gprom, out)
+
+
+def check_faults_in_folds(window, gprom, out):
+    """What is wrong where a change that stands for folded transactions is another one, and `verify` does not find that."""
+    script = open_text(window.path(f'{out}.script'))
+    with open(window.path(f'{out}.tsv'), newline='', encoding='utf-8') as lines:
+        entries = list(csv.DictReader(lines, delimiter='\t', quoting=csv.QUOTE_NONE))
+    folds = {entry['transaction'] for entry in entries if entry['kind'] == 'folded'}
+    places = [int(entry['script_line']) for entry in entries if entry['kind'] == 'line' and entry['transaction'] in folds]
+    texts, failures = script.split('\n'), []
+    for place in [place for place in places if ' SET ' in texts[place - 1]][::len(places) // FAULTS]:
+        changed = [*texts]
+        changed[place - 1] = re.sub(r'= (-?)(\d)', r'= \g<1>1\2', changed[place - 1], count=1)
+        window.save(f'{out}-fault.script', '\n'.join(changed))
+        for end in ('tsv', 'left'):
+            window.save(f'{out}-fault.{end}', open_text(window.path(f'{out}.{end}')))
+        lines = call([f'{HERE}/verify', window.path(f'{out}-fault'), '--tables', window.path('tables.sql'), '--slot', window.path('slot.txt'),
+                      '--gprom', gprom], (0, 1))
+        if not any('(folded: ' in line and ': differs: ' in line for line in lines):
+            failures.append(f'verify does not find that {texts[place - 1]!r} became {changed[place - 1]!r}')
     return failures
 
 
@@ -337,12 +428,13 @@ def is_expected_of_workload(verdict):
 
 def run(cluster, report, transactions, windows, seed):
     """Records a run of pgbench and one of the random workload. What is made of them is judged later."""
-    long = record_bench(cluster, report.window('a long log'), transactions)
+    long = record_bench(cluster, report.window('a long log'), transactions, windows, seed)
     work = record_workload(cluster, report.window('a log of random transactions'), max(8, transactions // 100), seed)
     report.later(report.check, 'files and plugins of a long log', check_readers, long)
     report.later(report.check, 'a window from a chained transaction on', check_chain, record_chain(cluster, report.window('a chain')), report.gprom)
     for source in (LOG, CAPTURE) if cluster.library else (LOG,):
         report.later(report.check, f'an incident in a long log, by {source.name}', check_incident, long, report.gprom, source)
+        report.later(report.check, f'an incident that lasts long, by {source.name}', check_slow, long, report.gprom, source)
         report.later(report.check, f'a long log without bounds, by {source.name}', check_whole, long, report.gprom, source)
         report.later(report.check, f'windows of a long log, by {source.name}', check_windows, long, report.gprom, source, windows, seed)
         report.later(report.check, f'windows of random transactions, by {source.name}', check_windows, work, report.gprom, source, windows, seed,

@@ -13,6 +13,7 @@ COLUMNS = """SELECT quote_ident(attname), format_type(base, NULL), CASE WHEN mod
                    FROM pg_attribute JOIN pg_type ON pg_type.oid = atttypid
                    WHERE attrelid = '{table}'::regclass AND attnum > 0 AND NOT attisdropped) AS found ORDER BY attnum"""
 LEFT_OUT = 'left out'                                   # said of a column in OUT.tsv
+BLOCK = 1 << 22
 INTEGERS = ('smallint', 'integer', 'bigint')
 
 
@@ -66,8 +67,8 @@ class Window:
             file.write(content if isinstance(content, bytes) else content.encode())
 
 
-def record(cluster, window, setup, work):
-    """Makes new tables by the statements of `setup`, and keeps what `work` does with them."""
+def record(cluster, window, setup, work, is_long=False):
+    """Makes new tables by the statements of `setup`, and keeps what `work` does with them. What is long is copied from file to file."""
     control = cluster.control
     control.execute(EVERYTHING)
     control.execute(setup)
@@ -87,11 +88,23 @@ def record(cluster, window, setup, work):
     cluster.take_capture()
     work(cluster)
     cluster.wait_for_sessions()
-    window.save('log.csv', cluster.take_log('the window ends'))
-    if captured := cluster.take_capture():
-        window.save('capture.jsonl', captured)
-    window.save('slot.txt', cluster.take_changes())
+    copy_part(*cluster.log_part('the window ends'), window.path('log.csv'))
+    file, begin, end = cluster.capture_part() if cluster.library else ('', 0, 0)
+    if end > begin:
+        copy_part(file, begin, end, window.path('capture.jsonl'))
+    if is_long:
+        cluster.copy_changes(window.path('slot.txt'))
+    else:
+        window.save('slot.txt', cluster.take_changes())
     window.ended = {table.name: rows_of(control, table) for table in tables if columns_of(control, table.quoted) == table.columns}
+
+
+def copy_part(file, begin, end, to):
+    """Copies a part of a file to another one."""
+    with open(file, 'rb') as opened, open(to, 'wb') as output:
+        opened.seek(begin)
+        while opened.tell() < end:
+            output.write(opened.read(min(BLOCK, end - opened.tell())))
 
 
 def columns_of(control, table):
