@@ -28,6 +28,7 @@ class Shape:
     """The scale of each number without one, and the columns that are left out, by table and column."""
     scales: dict[tuple[str, str], int] = field(default_factory=dict)
     dropped: set[tuple[str, str]] = field(default_factory=set)
+    makers: dict[str, Callable[[Row], Row]] = field(default_factory=dict)     # table -> what brings a row of it into this form
 
     @classmethod
     def read(cls, entries: list[dict[str, str]]) -> 'Shape':
@@ -53,7 +54,7 @@ class Shape:
 
     def apply(self, tables: dict[str, Table], start: dict[str, list[Row]], commits: list[Any]) -> None:
         """Brings the tables into this form, with their rows."""
-        makers = {}
+        makers = self.makers
         for table in tables.values():
             if any(name == table.name for name, _ in (*self.scales, *self.dropped)):
                 makers[table.name] = self.maker(table)

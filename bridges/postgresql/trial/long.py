@@ -1,4 +1,5 @@
 """Windows of long logs: the way from a row to its incident by `find` and `convert --around`, and random windows beside a replay of other code."""
+import collections
 import csv
 import gzip
 import os
@@ -19,6 +20,7 @@ from .window import record
 ACCOUNTS, CLIENTS = 20_000, 3                           # gprom holds 10,000 rows of a table
 KEY, GIVES = 4711, {'ann': 100, 'bob': 250}             # the account of the incident, and what each adds to what both have read
 SLOW_KEY, SLOW_GIVES = 1234, {'cat': 7, 'dan': 70}      # the same of an incident that lasts long: cat begins first and writes last
+SLOW_BRANCH = 3                                         # which both write too, as each tenth transaction does
 SLOW_FROM, SLOW_SHARE, SLOW_LEAST = 0.05, 0.1, 1000     # when it begins, and which share of all transactions it lasts, or how many
 INDEXED = {f'enable_{way}': 'on' for way in ('indexscan', 'indexonlyscan', 'bitmapscan')}
 ROW, GUIDE = f'pgbench_accounts:{KEY}', os.path.normpath(f'{HERE}/../../docs/GUIDE.md')
@@ -97,7 +99,8 @@ def bench_work(cluster, transactions, found, due):
         for share, act in due:
             while not running.done() and next_xid(cluster) - first < share * transactions:
                 time.sleep(0.02)
-            act(cluster, found)
+            if act is not take_moment or not running.done():
+                act(cluster, found)
         running.result()
 
 
@@ -131,6 +134,7 @@ def end_slowly(_, found):
 def write_slowly(found, name):
     session = found.slow.pop(name)
     session.execute(f'UPDATE pgbench_accounts SET abalance = {found.read[name] + SLOW_GIVES[name]} WHERE aid = {SLOW_KEY}')
+    session.execute(f'UPDATE pgbench_branches SET bbalance = bbalance + {SLOW_GIVES[name]} WHERE bid = {SLOW_BRANCH}')
     session.execute('COMMIT')
     session.close()
 
@@ -220,7 +224,7 @@ def check_slow(found, gprom, source):
     if missing := [name for name, xid in xids.items() if xid not in numbers]:
         return [*failures, f'{missing} not same in the window of {len(verdicts)} transactions: {last}']
     told = re.search(r'^0\t(\d+) transactions of the slot are folded', open_text(window.path(f'{out}.left')), re.M)
-    if not told or int(told[1]) < SLOW_LEAST // 2 or 'others are folded into' not in last:
+    if not told or int(told[1]) < SLOW_LEAST // 2 or ' others are folded into ' not in last:
         failures.append(f'{told and told[0]!r} is told, and {last}')
     (_, rows), (_, versions) = ask(gprom, window.path(f'{out}.dump'), [
         f"SAW {numbers[xids['cat']]} AFTER 1 SELECT abalance FROM pgbench_accounts WHERE aid = {SLOW_KEY}",
@@ -239,7 +243,7 @@ def check_faults_in_folds(window, gprom, out):
     folds = {entry['transaction'] for entry in entries if entry['kind'] == 'folded'}
     places = [int(entry['script_line']) for entry in entries if entry['kind'] == 'line' and entry['transaction'] in folds]
     texts, failures = script.split('\n'), []
-    for place in [place for place in places if ' SET ' in texts[place - 1]][::len(places) // FAULTS]:
+    for place in [place for place in places if ' SET ' in texts[place - 1]][::max(1, len(places) // FAULTS)]:
         changed = [*texts]
         changed[place - 1] = re.sub(r'= (-?)(\d)', r'= \g<1>1\2', changed[place - 1], count=1)
         window.save(f'{out}-fault.script', '\n'.join(changed))
@@ -419,6 +423,41 @@ def rows_differ(found, begun):
                        if replay.rows(name) != sorted(ended.in_gprom({}))]
 
 
+# Windows that begin at moments whose rows are known
+
+def windows_at(found, sources):
+    """A window from each moment on, by the sources and the slots by turns."""
+    slots = ['slot.txt', *[JSON] * found.has_json]
+    for number, moment in enumerate(found.moments):
+        source = sources[number % len(sources)]
+        yield moment, Asked(f'{source.out}-moment-{number}', source, slots[number // 2 % len(slots)], ['--from', moment.time], found.given(number))
+
+
+def check_moments(found, gprom, sources, counts=None):
+    """What is wrong with the rows where a window begins, beside those that the server had then, in a snapshot that it exported."""
+    failures, begun = [], []
+    for moment, asked in windows_at(found, sources):
+        name = f"{asked.name} ({' '.join(asked.options)})"
+        try:
+            window, wrong = check_window(found, gprom, asked, is_expected)
+        except RuntimeError as fault:
+            failures.append(f'{name}: {fault}')
+            continue
+        failures += [f'{name}: {verdict}' for verdict in wrong]
+        if window is None:
+            failures.append(f'{name}: no transaction is in it')
+            continue
+        begun.append(window)
+        for table, rows in window.rows.items():
+            if table in moment.files:
+                ended = found.window.ended[table]
+                theirs = known.rows_of(found.window.path(moment.files[table]), ended)
+                failures += [f'{name}: {table}: {what}' for what in known.differences(rows, theirs, table in window.partial)]
+                if counts is not None:
+                    counts['touched' if table in window.partial else 'whole'] += len(rows)
+    return failures + (rows_differ(found, begun) if found.has_json else [])
+
+
 def is_expected_of_workload(verdict):
     """The same of the random workload, which has statements that gprom cannot express."""
     return is_expected(verdict) or verdict.verdict == 'not covered' and bool(workload.REASONS.search(verdict.reason) or lacks.REASON in verdict.reason)
@@ -430,6 +469,7 @@ def run(cluster, report, transactions, windows, seed):
     """Records a run of pgbench and one of the random workload. What is made of them is judged later."""
     long = record_bench(cluster, report.window('a long log'), transactions, windows, seed)
     work = record_workload(cluster, report.window('a log of random transactions'), max(8, transactions // 100), seed)
+    run_moments(cluster, report, long)
     report.later(report.check, 'files and plugins of a long log', check_readers, long)
     report.later(report.check, 'a window from a chained transaction on', check_chain, record_chain(cluster, report.window('a chain')), report.gprom)
     for source in (LOG, CAPTURE) if cluster.library else (LOG,):
@@ -439,4 +479,24 @@ def run(cluster, report, transactions, windows, seed):
         report.later(report.check, f'windows of a long log, by {source.name}', check_windows, long, report.gprom, source, windows, seed)
         report.later(report.check, f'windows of random transactions, by {source.name}', check_windows, work, report.gprom, source, windows, seed,
                      is_expected_of_workload)
+    return said_of(long)
+
+
+def moments_alone(cluster, report, transactions, count, seed):
+    """Records a run of pgbench, and looks at windows that begin at moments whose rows are known."""
+    long = record_bench(cluster, report.window('a long log'), transactions, count, seed)
+    counts = collections.Counter()
+    run_moments(cluster, report, long, counts)
+    report.finish()
+    return f"moments: {len(long.moments)} windows, {counts['whole']} rows of whole tables and {counts['touched']} touched rows compared\n" + said_of(long)
+
+
+def run_moments(cluster, report, long, counts=None):
+    sources = (LOG, CAPTURE) if cluster.library else (LOG,)
+    report.later(report.check, 'rows of a snapshot where windows begin', check_moments, long, report.gprom, sources, counts)
+    if long.moments:
+        report.later(report.check, 'all row versions in another engine', known.check_versions, long.window, long.moments[len(long.moments) // 2], report.gprom)
+
+
+def said_of(long):
     return '' if long.has_json else 'windows: the rows where they begin are not compared, since wal2json is not installed'

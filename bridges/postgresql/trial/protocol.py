@@ -27,7 +27,7 @@ class Result:
     tag: str = ''
     columns: list[Column] = field(default_factory=list)
     rows: list[tuple] = field(default_factory=list)
-    copied: bytes = b''
+    copied: bytearray = field(default_factory=bytearray)
 
 
 class ServerError(RuntimeError):

@@ -13,7 +13,8 @@ class Shards:
         self.sessions = [shard.control for shard in shards]
         cluster.control.execute('CREATE SCHEMA shards; CREATE EXTENSION postgres_fdw SCHEMA shards')
         for at, shard in enumerate(shards):
-            cluster.control.execute(f"CREATE SERVER shard_{at} FOREIGN DATA WRAPPER postgres_fdw OPTIONS (host '{shard.folder}', dbname 'postgres')")
+            cluster.control.execute(f"CREATE SERVER shard_{at} FOREIGN DATA WRAPPER postgres_fdw OPTIONS (host '{shard.folder}', dbname 'postgres', "
+                                    "fetch_size '10000', async_capable 'true')")
             cluster.control.execute(f"CREATE USER MAPPING FOR postgres SERVER shard_{at} OPTIONS (user 'postgres')")
 
     def split(self, tables):

@@ -64,7 +64,7 @@ class Window:
     def save(self, name, content):
         """Writes a file of the window."""
         with open(self.path(name), 'wb') as file:
-            file.write(content if isinstance(content, bytes) else content.encode())
+            file.write(content if isinstance(content, (bytes, bytearray)) else content.encode())
 
 
 def record(cluster, window, setup, work, is_long=False):
