@@ -39,6 +39,12 @@ listen_addresses = ''
 unix_socket_directories = '{folder}'
 fsync = off
 """
+AUDITS = """
+shared_preload_libraries = 'pgaudit'
+pgaudit.log = 'all'
+pgaudit.log_parameter = on
+pgaudit.log_catalog = off
+"""
 PLUGINS = "output_plugin_libraries = 'pgoutput, test_decoding, wal2json'\n"      # some servers load no other ones
 SLOT = 'bridge'
 OTHERS = "backend_type = 'client backend' AND pid NOT IN (pg_backend_pid(), {})"
@@ -74,9 +80,10 @@ def as_unprivileged_user():
 class Cluster:
     """The server, as a context: it runs inside of the `with`, and is stopped and removed whatever ends that."""
 
-    def __init__(self, captures=False, is_plain=False):
+    def __init__(self, captures=False, is_plain=False, audits=False):
         self.is_plain = is_plain                        # as a server is installed, with no settings but where its socket is
         self.settings = {}                              # what was set since the server started
+        self.audits = audits                            # whether pgAudit tells of its statements, beside their durations
         self.captures = captures                        # whether it has the extension, if that can be built
         self.programs = programs_folder()
         self.folder = tempfile.mkdtemp(prefix='gprom-', dir='/tmp')     # the path of a socket may have 107 bytes
@@ -87,6 +94,7 @@ class Cluster:
         self.read = self.captured = 0                   # how many bytes of the log and of the capture have been taken
         self.library, self.missing = None, ''           # of the extension, or why it could not be built
         self.unseen = ''                                # options of a session of which nothing is in the log or the capture
+        self.has_pgaudit = os.path.exists(f'{os.path.dirname(self.programs)}/lib/pgaudit.so')
         self.has_wal2json = os.path.exists(f'{os.path.dirname(self.programs)}/lib/wal2json.so')
 
     def command(self, program, *arguments, environment=None, output=None):
@@ -106,6 +114,7 @@ class Cluster:
             with open(f'{self.data}/postgresql.conf', 'a', encoding='utf-8') as file:
                 file.write((PLAIN if self.is_plain else SETTINGS).format(folder=self.folder))
                 file.write(f"session_preload_libraries = '{self.library}'\n" if self.library else '')
+                file.write(AUDITS if self.audits and self.has_pgaudit else '')
                 file.write(PLUGINS if self.has_wal2json and 'output_plugin_libraries' in self.command('postgres', '--describe-config') else '')
             self.command('pg_ctl', '-D', self.data, '-w', '-t', '120', '-l', f'{self.folder}/start.log', 'start')
             self.control = self.connect()
