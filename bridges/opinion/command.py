@@ -3,6 +3,7 @@
 from __future__ import annotations
 
 import argparse
+import itertools
 import tempfile
 from collections import Counter
 from dataclasses import dataclass, field
@@ -13,6 +14,7 @@ from gprom.history import Dump
 from gprom.program import Answer, Program, ProgramError, find_program
 
 from .cycles import TooMany, all_cycles, anomalies, anomalies_answer, name, serial_answer
+from .faults import FAULTS, made
 from .relation import Relation
 from .replay import differences
 from .scripts import random_script
@@ -41,6 +43,7 @@ def arguments() -> argparse.Namespace:
     parser.add_argument("--histories", type=int, default=HISTORIES, metavar="N", help="compare so many random histories, besides the cases by hand (%(default)s)")
     parser.add_argument("--seed", type=int, default=1, help="of the first random history; the next one has the next number (%(default)s)")
     parser.add_argument("--dump", type=Path, metavar="DUMP", help="print both answers about this dump instead, by the rules alone")
+    parser.add_argument("--faults", action="store_true", help="read the rules wrongly instead, in several ways, each of which has to give another answer for some history")
     parser.add_argument("--gprom", metavar="PROGRAM", help="the program (that of the checkout, else of the path)")
     return parser.parse_args()
 
@@ -52,6 +55,8 @@ def main() -> int:
         if given.dump:
             print("\n".join(of_dump(program, Dump.open(given.dump))))
             return 0
+        if given.faults:
+            return find_faults(program, given.seed, given.histories)
         counts = compare_all(program, given.seed, given.histories)
     except (ProgramError, OSError) as error:
         print(f"bridges/opinion/check: {error}")
@@ -119,6 +124,29 @@ def compare(program: Program, what: str, text: str, folder: Path, counts: Counts
         found = differences(program, dump, [it.number for it in lines_of(serial, numbered)], folder)
         counts.replays += not found
         counts.failures += [f"{what}: {difference}" for difference in found]
+
+
+def find_faults(program: Program, seed: int, histories: int) -> int:
+    """Says by which history each wrong reading is found. The status is 1 where one is not."""
+    left = dict.fromkeys(FAULTS, "")
+    with tempfile.TemporaryDirectory(prefix="gprom-opinion-") as folder:
+        script, path = Path(folder) / "case.script", Path(folder) / "case.dump"
+        written = [(it.stem, it.read_text(encoding="utf-8")) for it in sorted(CASES.glob("*.script"))]
+        drawn = ((f"--seed {number}", "".join(f"{line}\n" for line in random_script(number))) for number in range(seed, seed + histories))
+        for what, text in itertools.chain(drawn, written):
+            script.write_text(text, encoding="utf-8")
+            program.run(script, path)
+            dump = Dump.open(path)
+            right = of_dump(program, dump)
+            for name in [name for name, by in left.items() if not by]:
+                with made(name):
+                    left[name] = "" if of_dump(program, dump) == right else what
+            if all(left.values()):
+                break
+    for name, by in left.items():
+        print(f"{name}: found by {by}" if by else f"FAILED {name}: not found")
+    print(f"{sum(map(bool, left.values()))} passed, {sum(not by for by in left.values())} failed")
+    return int(not all(left.values()))
 
 
 def _lines(answer: Answer) -> list[str]:

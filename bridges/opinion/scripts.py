@@ -104,9 +104,9 @@ class _Writer:
 
     def _statements(self) -> list[str]:
         if self._few and self._random.random() < 0.5:
-            # A row that is read and then written.
+            # A row that is read and then written, most often without a look at it.
             number = self._random.randint(1, 2)
-            return [self._filled(self._random.choice(texts), number) for texts in (FEW_WRITES, FEW_READS)]
+            return [self._filled(self._random.choice(texts), number) for texts in (FEW_WRITES[:4], FEW_READS[:3])]
         return [self._statement() for _ in range(self._random.randint(1, MOST_STATEMENTS))]
 
     def _statement(self) -> str:
