@@ -7,7 +7,7 @@ from pathlib import Path
 
 from browser import Browser, BrowserError, installed
 
-from .support import Serving, desk
+from .support import Serving, desk, program
 
 WHATIF = "#v=8&t=2.2&w=%5B%5B%22replace%22%2C2%2C2%2C%22UPDATE%20item%20SET%20qty%20%3D%20qty%20-%202%20WHERE%20id%20%3D%201%22%5D%5D"
 # The name of a picture, the history, what is chosen, and a text that is there when all is drawn.
@@ -19,6 +19,7 @@ PICTURES = (
     ("audit", "stock", "#q=AUDIT", "By session"),
     ("hostile", "hostile", "#t=1&row=note/1.1.1", "from"),
     ("800", "overlapping", "#t=799", "Transaction 799"),
+    ("anomalies", "rounds", "#a=4.5", "30 anomalies"),
 )
 
 
@@ -27,6 +28,8 @@ def take_pictures(folder: Path) -> None:
     folder.mkdir(parents=True, exist_ok=True)
     with Browser(installed() or "chromium") as browser:
         for name, history, chosen, text in PICTURES:
+            if name == "anomalies" and not program().knows("ANOMALIES"):
+                continue
             with Serving(desk(history)) as server:
                 for dark in (False, True):
                     for width in (1280, 400):

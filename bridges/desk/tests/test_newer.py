@@ -21,7 +21,7 @@ from gprom.program import Answer, Job
 from .newer import TEXTS, TWO, Newer, newer
 from .support import desk, program, written
 
-ALL = all(program().knows(it) for it in ("ANOMALIES", "AFFECTED", "UNDO"))
+ANOMALIES, AFFECTED, UNDO = (program().knows(it) for it in ("ANOMALIES", "AFFECTED", "UNDO"))
 
 
 class Readers(unittest.TestCase):
@@ -54,14 +54,15 @@ class Known(unittest.TestCase):
         with mock.patch.object(cli, "Program", Newer), contextlib.redirect_stdout(out):
             status = cli.main(["--no-cache", str(written("two.script", TWO)), "audit"])
         self.assertEqual(status, 1)
+        self.assertIn("NO  2 anomalies: 1 lost update, 1 write skew  [ANOMALIES: anomalies 2]", out.getvalue())
         self.assertIn("NO  Lost update  [ANOMALIES: anomalies 2]\n      2 overwrote row 1.1.1 of acct, which 3 had changed after 2 read it.", out.getvalue())
         self.assertIn("NO  Write skew  [ANOMALIES: anomalies 2]\n      4 read row 1.1.2 of acct, which 5 then changed; and 5 read row 1.1.3 of acct, which 4 then changed.", out.getvalue())
 
     def test_answers(self) -> None:
         it = newer()
         result = it.ask_one("ANOMALIES")
-        self.assertEqual([block.title for block in result.blocks], ["lost update: 2 3", "write skew: 4 5"])
-        self.assertEqual([note.text()[:13] for note in result.notes], ["Lost update. ", "Write skew. 4"])
+        self.assertEqual([block.title for block in result.blocks], ["by name", "lost update: 2 3", "write skew: 4 5"])
+        self.assertEqual([note.text()[:13] for note in result.notes], ["Lost update: ", "Write skew: 4"])
         rows = it.ask_one("AFFECTED BY 1").blocks[0].rows
         self.assertEqual([cell.text() for cell in rows[0]], ["1", "undone", "", ""])
         self.assertEqual([cell.text() for cell in rows[1]], ["3", "3.1", "- acct 1.1.1 : 1, 100 -> 1, 130", "UPDATE acct SET bal = 130 WHERE (id = 1)"])
@@ -70,7 +71,7 @@ class Known(unittest.TestCase):
     def test_the_page(self) -> None:
         api = Api(newer())
         self.assertEqual(api.answer("history", {}, Job())["knows"], ["ANOMALIES", "AFFECTED", "UNDO"])
-        self.assertEqual([it["title"] for it in api.answer("verdicts", {}, Job())["verdicts"]], ["The record of a history", "Lost update", "Write skew"])
+        self.assertEqual([it["title"] for it in api.answer("verdicts", {}, Job())["verdicts"]], ["The record of a history", "2 anomalies: 1 lost update, 1 write skew", "Lost update", "Write skew"])
         self.assertEqual(api.answer("affected", {"t": 1}, Job())["result"]["head"], "affected 5")
         undone = api.answer("whatif", {"changes": [{"kind": "undo", "t": 4}, {"kind": "undo", "t": 5}], "version": 5}, Job())
         self.assertEqual((undone["words"], len(undone["result"]["blocks"][0]["rows"])), ("UNDO 4, 5", 2))
@@ -80,7 +81,7 @@ class Known(unittest.TestCase):
             self.assertIn(word, list(candidates(newer(), text)))
 
 
-@unittest.skipIf(ALL, "the program has these questions")
+@unittest.skipIf(ANOMALIES, "the program has ANOMALIES")
 class Unknown(unittest.TestCase):
     """With a program that has them not."""
 
@@ -94,26 +95,46 @@ class Unknown(unittest.TestCase):
         self.assertIn("this gprom has no ANOMALIES: SERIAL finds the shortest cycle", found.message)
 
 
-@unittest.skipUnless(ALL, "ANOMALIES, AFFECTED BY and WHATIF UNDO: this gprom does not have them")
 class Real(unittest.TestCase):
-    """With the program under test, where it has them."""
+    """With the program under test, as far as it has them."""
 
-    def test_the_texts_are_its_answers(self) -> None:
+    @unittest.skipUnless(ANOMALIES, "ANOMALIES: this gprom does not have it")
+    def test_anomalies(self) -> None:
+        self.same("ANOMALIES", "ANOMALIES x")
+        for name in ("stock", "write-skew", "isolation-g2", "pay"):
+            self.assertEqual(desk(name).ask_one("ANOMALIES").kind, "anomalies", name)
+
+    @unittest.skipUnless(ANOMALIES, "ANOMALIES: this gprom does not have it")
+    def test_two_anomalies_are_found_by_one_command(self) -> None:
+        out = io.StringIO()
+        with contextlib.redirect_stdout(out):
+            status = cli.main(["--no-cache", "--gprom", program().words[0], str(written("two.script", TWO)), "audit"])
+        self.assertEqual(status, 1)
+        for line in ("2 anomalies: 1 lost update, 1 write skew", "2 overwrote row 1.1.1 of acct, which 3 had changed after 2 read it.", "4 read row 1.1.2 of acct, which 5 then changed"):
+            self.assertIn(line, out.getvalue())
+
+    @unittest.skipUnless(ANOMALIES, "ANOMALIES: this gprom does not have it")
+    def test_an_anomaly_stays_in_the_least_script(self) -> None:
+        two = Desk(Client(program(), open_source(written("two.script", TWO), program())))
+        for name, left in (("", "lost update"), ("write skew", "write skew")):
+            found = reproduce(program(), lines_of_log(two.history), "ANOMALIES", name=name)
+            self.assertEqual([it.name for it in a.anomalies(found.answer)], [left])
+            self.assertLess(len(found.lines), 13)
+
+    @unittest.skipUnless(AFFECTED and UNDO, "AFFECTED BY and WHATIF UNDO: this gprom does not have them")
+    def test_affected_and_undo(self) -> None:
+        self.same(*(question for question in TEXTS if not question.startswith("ANOMALIES")))
         it = Desk(Client(program(), open_source(written("two.script", TWO), program())))
-        for question, text in TEXTS.items():
-            self.assertEqual(it.client.ask_one(question).text(), text.replace("\n", "\n"), question)
         undo, drop = it.client.ask(["WHATIF UNDO 4, 5 OF AS OF 5 SELECT * FROM acct", "WHATIF DROP 4, DROP 5 OF AS OF 5 SELECT * FROM acct"])
         self.assertEqual(undo.lines, drop.lines)
-
-    def test_examples(self) -> None:
         for name in ("stock", "write-skew", "isolation-g2", "pay"):
-            it = desk(name)
-            self.assertTrue(it.ask_one("ANOMALIES").kind == "anomalies", name)
-            self.assertTrue(it.ask_one("AFFECTED BY 1").kind == "affected", name)
+            self.assertEqual(desk(name).ask_one("AFFECTED BY 1").kind, "affected", name)
 
-    def test_an_anomaly_stays_in_the_least_script(self) -> None:
-        found = reproduce(program(), lines_of_log(desk("stock").history), "ANOMALIES")
-        self.assertLess(len(found.lines), 12)
+    def same(self, *questions: str) -> None:
+        """The texts of the tests are answers of the program."""
+        it = Desk(Client(program(), open_source(written("two.script", TWO), program())))
+        for question in questions:
+            self.assertEqual(it.client.ask_one(question).text(), TEXTS[question], question)
 
 
 if __name__ == "__main__":

@@ -10,7 +10,7 @@ from pathlib import Path
 
 from browser import Browser
 
-from .cases import CASES, SEEN
+from .cases import ANOMALIES, CASES, CYCLES, SEEN
 from .pages import Pages
 from .scripts import large, overlapping
 
@@ -69,7 +69,7 @@ def every_example_opens(browser: Browser, pages: Pages) -> Faults:
 
 
 def texts_are_there(browser: Browser, pages: Pages) -> Faults:
-    for case in CASES:
+    for case in [*CASES, *(ANOMALIES if pages.knows_anomalies() else CYCLES)]:
         title = ("--title", "<i>hostile</i>") if case.script == "hostile" else ()
         browser.open(pages.page(pages.dump(case.script), *title), case.chosen)
         fault = noise(browser) or lacks(browser, *case.expected)
@@ -102,6 +102,24 @@ def mouse_chooses(browser: Browser, pages: Pages) -> Faults:
     yield "a click chooses a row", lacks(browser, (".life", "v3 2.2 1, 'Rope', 36, 250 → 1, 'Rope', 38, 250 i1.1.1*u2.2*u3.1"))
     browser.click(".life.chosen a[href='#t3-1']")
     yield "a token leads to its statement", lacks(browser, ("#t3-1", "UPDATE item SET qty = (qty - 4)")) or noise(browser)
+
+
+def an_anomaly_chooses(browser: Browser, pages: Pages) -> Faults:
+    """Its arrows, its transactions and its steps are shown, and those of no other one."""
+    if not pages.knows_anomalies():
+        return
+    browser.open(pages.page(pages.dump("anomalies")))
+    picked = "[...document.querySelectorAll('g.arrow')].filter((it) => getComputedStyle(it).display !== 'none').map((it) => it.dataset.a).join()"
+    marked = "[...document.querySelectorAll('.box.of')].map((it) => it.dataset.t).join()"
+    first = browser.ask(picked), browser.ask(marked)
+    browser.click("#a4-5 .name")
+    fault = lacks(browser, ("#t4", "Transaction 4"), ("#a4-5 .cycle", "5.1 read acct 1.1.3 at 3, 4 wrote it as 4"))
+    second = browser.ask(picked), browser.ask(marked)
+    yield "an anomaly chooses its arrows and transactions", fault or ("" if (first, second) == (("2,3", "2,3"), ("4,5", "4,5")) else f"{first}, {second}")
+    browser.click("#t4 .met a")
+    yield "a transaction leads to its anomalies", lacks(browser, (".anomaly.chosen", "Write skew")) or noise(browser)
+    browser.open(pages.page(pages.dump("anomalies")), script=False)
+    yield "without JavaScript all steps are there", lacks(browser, ("#a4-5 .cycle", "5.1 read acct 1.1.3"), ("#a2-3 .cycle", "2.1 read acct 1.1.1"))
 
 
 def keys_choose(browser: Browser, pages: Pages) -> Faults:
@@ -163,7 +181,7 @@ def what_is_cut_says_so(browser: Browser, pages: Pages) -> Faults:
     page = pages.page(pages.dump("overlapping", overlapping(800)))
     browser.open(page, "#t799")
     expected = (
-        ("#t799", "In the cycle: 799 before 800: 799.1 read acct"),
+        ("#t799", "799 before 800: 799.1 read acct"),
         (".cut", "Cut: 500 more transactions. TRANSACTIONS gives all."),
         ("g.arrow text", "a b"),
     )
@@ -243,6 +261,7 @@ CHECKS = (
     texts_are_there,
     policy_stops_other_scripts,
     mouse_chooses,
+    an_anomaly_chooses,
     keys_choose,
     all_is_there_without_script,
     lanes_are_lists,

@@ -9,6 +9,8 @@ import sys
 from collections.abc import Callable
 from pathlib import Path
 
+from gprom.program import Program
+
 HERE = Path(__file__).resolve().parent
 PAGE = HERE.parent / "page"
 EXAMPLES = HERE.parents[2] / "examples"
@@ -17,8 +19,13 @@ EXAMPLES = HERE.parents[2] / "examples"
 class Pages:
     def __init__(self, program: list[str], folder: Path):
         self.program, self.folder = program, folder
+        self._calls = Program(program)
         # The processor time in seconds that each page took, that of the program included.
         self.seconds: dict[str, float] = {}
+
+    def knows_anomalies(self) -> bool:
+        """Whether the program has ANOMALIES."""
+        return self._calls.knows("ANOMALIES")
 
     def examples(self) -> list[str]:
         return sorted(path.stem for path in EXAMPLES.glob("*.script"))

@@ -2,6 +2,7 @@
 
 from __future__ import annotations
 
+from collections.abc import Sequence
 from dataclasses import dataclass
 from typing import TYPE_CHECKING, ClassVar
 
@@ -10,6 +11,7 @@ from gprom.answers import Edge
 from .markup import escape
 
 if TYPE_CHECKING:
+    from .history import Cycle
     from .timeline import Timeline
 
 BOX = 80
@@ -68,21 +70,23 @@ class Curve:
         return along(0), along(1)
 
 
-def arrows(timeline: Timeline, edges: list[Edge]) -> list[Arrow]:
-    return [_arrow(timeline, number, edge) for number, edge in enumerate(edges, 1)]
+def arrows(timeline: Timeline, cycles: Sequence[Cycle]) -> list[Arrow]:
+    """The arrows of all cycles. The script shows those of the chosen one, and without it all are there."""
+    return [_arrow(timeline, number, edge, cycle.key, at == 0) for at, cycle in enumerate(cycles) for number, edge in enumerate(cycle.edges, 1)]
 
 
-def _arrow(timeline: Timeline, number: int, edge: Edge) -> Arrow:
+def _arrow(timeline: Timeline, number: int, edge: Edge, key: str, picked: bool) -> Arrow:
     start, end = _place(timeline, edge, edge.first), _place(timeline, edge, edge.second)
     if not start or not end:
         return Arrow("", "")
     curve = _curve(timeline.lane, start, end)
     x, y = curve.point(LETTER_AT)
-    between = f'data-a="{edge.first}" data-b="{edge.second}"'
+    between = f'data-a="{edge.first}" data-b="{edge.second}" data-of="{key}"'
+    name = "arrow picked" if picked else "arrow"
     title = escape(f"{edge.first} before {edge.second} : {edge.witness}")
     return Arrow(
-        f'<path class="arrow" {between} d="{curve.path()}" marker-end="url(#head)"/>',
-        f'<g class="arrow" {between}><title>{title}</title><circle cx="{x:.1f}" cy="{y:.1f}" r="9"/>'
+        f'<path class="{name}" {between} d="{curve.path()}" marker-end="url(#head)"/>',
+        f'<g class="{name}" {between}><title>{title}</title><circle cx="{x:.1f}" cy="{y:.1f}" r="9"/>'
         f'<text x="{x:.1f}" y="{y + 4:.1f}">{letter(number)}</text></g>',
     )
 

@@ -3,33 +3,34 @@
 from __future__ import annotations
 
 from gprom import answers as a
-from gprom.answers import Edge
 from gprom.program import Answer
 
-from .history import History, Statement, Transaction
+from .history import Cycle, History, Statement, Transaction
 from .markup import Links, cut, escape, fold, row_or_none, sign
 
 # The rows that are shown of what a statement saw or changed: so many of all of them, and of each one between these.
 MOST_ROWS = 1500
 LEAST_EACH, MOST_EACH = 3, 30
 MOST_MET = 25
+# The cycles of a transaction whose steps are shown.
+MOST_CYCLES = 12
 
 
 def details(history: History, links: Links) -> str:
     first = _first(history)
     statements = sum(len(it.statements) for it in history.shown)
     most = max(LEAST_EACH, min(MOST_EACH, MOST_ROWS // max(1, statements)))
-    return "".join(_transaction(it, it is first, most, history.edges, links) for it in history.shown)
+    return "".join(_transaction(it, it is first, most, history.cycles, links) for it in history.shown)
 
 
 def _first(history: History) -> Transaction | None:
-    """What an auditor would look at first: the cycle, else a transaction that was lost."""
-    cycle = {edge.first for edge in history.edges}
+    """What an auditor would look at first: the first cycle, else a transaction that was lost."""
+    cycle = history.cycles[0].transactions if history.cycles else ()
     in_order = [it for it in history.shown if it.number in cycle] or [it for it in history.shown if it.kind == "lost"] or history.shown
     return in_order[0] if in_order else None
 
 
-def _transaction(it: Transaction, chosen: bool, most: int, edges: list[Edge], links: Links) -> str:
+def _transaction(it: Transaction, chosen: bool, most: int, cycles: list[Cycle], links: Links) -> str:
     listed, number = it.listed, it.number
     asked = [it.log, *(answer for one in it.statements for answer in (one.saw, one.changes) if answer), it.conflicts]
     statements = "".join(_statement(one, most) for one in it.statements)
@@ -38,7 +39,7 @@ def _transaction(it: Transaction, chosen: bool, most: int, edges: list[Edge], li
         f'data-reads="{" ".join(map(str, it.reads()))}">'
         f'<h3 id="t{number}-name"><span class="chip {it.kind}">{sign(it.kind, it.version, listed.became)}</span> Transaction {number} '
         f"<small>session {listed.session}, {listed.level}, begun at version {listed.begin}, {escape(listed.became)}</small></h3>"
-        f"{_met(it, links)}{_in_cycle(number, edges, links)}"
+        f"{_met(it, links)}{_in_cycles(number, cycles, links)}"
         + (f'<ol class="statements">{statements}</ol>' if statements else '<p class="quiet">No statement.</p>')
         + fold("the questions behind this", asked, 40)
         + "</section>"
@@ -93,9 +94,14 @@ def _met(it: Transaction, links: Links) -> str:
     return f'<p class="met">{first}</p><ul>{rows}</ul>{cut(it.conflicts.total - MOST_MET, "row", it.conflicts.question)}'
 
 
-def _in_cycle(number: int, edges: list[Edge], links: Links) -> str:
-    mine = [edge for edge in edges if number in (edge.first, edge.second)]
-    if not mine:
-        return ""
-    steps = "".join(f"<li>{links.to(it.first)} before {links.to(it.second)}: <code>{escape(it.witness)}</code></li>" for it in mine)
-    return f'<p class="met">In the cycle:</p><ul>{steps}</ul>'
+def _in_cycles(number: int, cycles: list[Cycle], links: Links) -> str:
+    """The anomalies that it is part of, each with the steps from it and to it."""
+    mine = [it for it in cycles if number in it.transactions]
+    parts = []
+    for it in mine[:MOST_CYCLES]:
+        edges = [edge for edge in it.edges if number in (edge.first, edge.second)]
+        steps = "".join(f"<li>{links.to(one.first)} before {links.to(one.second)}: <code>{escape(one.witness)}</code></li>" for one in edges)
+        name = f'<a href="#a{it.key}">{escape(it.name)} {", ".join(map(str, it.transactions))}</a>' if it.anomaly else "In the cycle"
+        parts.append(f'<p class="met">{name}:</p><ul>{steps}</ul>')
+    left = len(mine) - MOST_CYCLES
+    return "".join(parts) + (f'<p class="cut">Cut: {left:,} more of its anomalies. <code>ANOMALIES</code> gives all.</p>' if left > 0 else "")

@@ -8,12 +8,15 @@ from dataclasses import dataclass, field
 from pathlib import Path
 
 from gprom import answers as a
+from gprom.anomalies import full_name
 from gprom.history import Dump
 from gprom.history import History as Log
 from gprom.program import Answer, Program
 
 # The rows that are kept of an answer of SAW or CHANGES. The page shows fewer.
 MOST_KEPT = 200
+# The anomalies that are listed, with their arrows.
+MOST_CYCLES = 200
 # The rows that a table has at most, but for inserts beside one another.
 MOST_ROWS = 10_000
 
@@ -101,13 +104,34 @@ class Table:
         return self._polynomials[version].get(row)
 
 
+@dataclass(frozen=True)
+class Cycle:
+    """A cycle that is shown: an anomaly, or the shortest one where the program has this alone."""
+
+    edges: tuple[a.Edge, ...]
+    anomaly: a.Anomaly | None = None
+
+    @property
+    def transactions(self) -> tuple[int, ...]:
+        return tuple(edge.first for edge in self.edges)
+
+    @property
+    def key(self) -> str:
+        """Its part of an address."""
+        return "-".join(map(str, self.transactions))
+
+    @property
+    def name(self) -> str:
+        return full_name(self.anomaly).capitalize() if self.anomaly else "Cycle"
+
+
 class Questions:
     """The questions of one call, each once, with the lines that are kept of its answer. The log decides which there are."""
 
-    def __init__(self, log: Log, most: int):
+    def __init__(self, log: Log, most: int, anomalies: bool):
         self._log = log
         self._kept: dict[str, int | None] = {}
-        self.add("CHECK", "SERIAL", "TRANSACTIONS")
+        self.add("CHECK", "SERIAL", "TRANSACTIONS", *(["ANOMALIES"] if anomalies else []))
         for table in log.tables:
             self.add(f"VERSIONS OF {table}", f"HISTORY OF {table}")
         self.provenance: dict[str, list[int]] = {**{table: [] for table in log.tables}, **self._of_versions(most)}
@@ -148,7 +172,7 @@ class History:
 
     def __init__(self, program: Program, dump: Path, limits: Limits):
         log = _log_of(dump)
-        questions = Questions(log, limits.provenance)
+        questions = Questions(log, limits.provenance, program.knows("ANOMALIES"))
         self._answers = questions.ask(program, dump)
         self.answers = list(self._answers.values())
         self.check, self.serial, self.listing = self.answers[:3]
@@ -162,12 +186,24 @@ class History:
             )
             for name, table in log.tables.items()
         }
-        self.edges = a.lines_of(self.serial, a.edge) if self.serial.head.startswith("cycle ") else []
+        self.anomalies = self._answers.get("ANOMALIES")
+        # All anomalies, and those that are shown.
+        self.found = a.anomalies(self.anomalies) if self.anomalies else []
+        self.cycles = [Cycle(it.edges, it) for it in self.found[:MOST_CYCLES]] or self._cycle()
         self.transactions = [self._transaction(line) for line in a.lines_of(self.listing, a.listed)]
         self._find_reads()
         self.makers = {it.version: it.number for it in self.transactions if it.version is not None}
         self.last = max(self.makers, default=0)
         self.shown = self._cut(limits.transactions)
+
+    def _cycle(self) -> list[Cycle]:
+        """That of SERIAL."""
+        return [Cycle(tuple(a.lines_of(self.serial, a.edge)))] if self.serial.head.startswith("cycle ") else []
+
+    def idle(self) -> list[int]:
+        """The committed transactions that wrote nothing, by the row versions of all tables."""
+        wrote = {version for table in self.tables.values() for span in table.spans() for version in (span.start, span.end)}
+        return [number for version, number in self.makers.items() if version not in wrote]
 
     def _transaction(self, listed: a.Listed) -> Transaction:
         log = self._answers[f"LOG {listed.number}"]
@@ -193,8 +229,11 @@ class History:
                     statement.read = ends[before - 1][1] if before else 0
 
     def _cut(self, most: int) -> list[Transaction]:
-        """The transactions that are shown: those of the cycle, and the first others."""
-        cycle = {edge.first for edge in self.edges}
+        """The transactions that are shown: those of the first cycles, as many as have room, and the first others."""
+        cycle = set(self.cycles[0].transactions) if self.cycles else set[int]()
+        for it in self.cycles:
+            if len(cycle.union(it.transactions)) <= most:
+                cycle.update(it.transactions)
         room = max(0, most - len(cycle))
         first = [it.number for it in self.transactions if it.number not in cycle][:room]
         kept = cycle.union(first)

@@ -26,9 +26,10 @@ class Timeline:
     def __init__(self, history: History):
         self.history, self.shown = history, history.shown
         # Arrows need room between the lanes.
-        self.lane = 126 if history.edges else 100
+        self.lane = 126 if history.cycles else 100
         self.sessions = sorted({it.listed.session for it in self.shown})
         self.boxes = {it.number: it for it in self.shown}
+        self.marked = set(history.cycles[0].transactions) if history.cycles else set[int]()
         lines = sorted({line for it in self.shown for line in _lines(it)})
         longest = max((len(f"{it.number}.{len(it.statements)}") for it in self.shown), default=0)
         self.step = max(28, 6.6 * longest + 5, min(92, (LEAST_WIDTH - LEFT - 20) / max(1, len(lines))))
@@ -69,7 +70,7 @@ class Timeline:
 
     def draw(self) -> str:
         """Both pictures, from back to front: lanes, versions, boxes, arrows, writing, letters. So no arrow hides a number."""
-        drawn = arrows(self, self.history.edges)
+        drawn = arrows(self, self.history.cycles)
         out = [self._names(), self._open(), self._lanes(0, self.width), self._gaps(), *map(self._version, self.shown), self._ticks()]
         out += map(self._back, self.shown)
         out += [arrow.path for arrow in drawn]
@@ -130,7 +131,7 @@ class Timeline:
     def _back(self, it: Transaction) -> str:
         left, right = self.ends(it)
         return (
-            f'<rect class="box {it.kind}" data-t="{it.number}" x="{_at(left)}" y="{_at(self.y(it))}" width="{_at(right - left)}" '
+            f'<rect class="box {it.kind}{" of" if it.number in self.marked else ""}" data-t="{it.number}" x="{_at(left)}" y="{_at(self.y(it))}" width="{_at(right - left)}" '
             f'height="{BOX}" rx="5"/>'
         )
 

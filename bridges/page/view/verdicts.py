@@ -2,8 +2,10 @@
 
 from __future__ import annotations
 
+from gprom.anomalies import NO_ORDER, Said, by_name, sentence
+
 from .arrows import letter
-from .history import History, refused
+from .history import Cycle, History, refused
 from .markup import Links, count, escape, fold
 
 # The transactions of a serial order that are shown.
@@ -11,7 +13,7 @@ MOST_ORDER = 300
 
 
 def verdicts(history: History, links: Links) -> str:
-    items = (_check(history), _serial(history, links), _refused(history))
+    items = (_anomalies(history, links) if history.found else _serial(history, links), _check(history), _refused(history))
     return f'<ul class="verdicts">{"".join(items)}</ul>'
 
 
@@ -31,6 +33,41 @@ def _check(history: History) -> str:
     return _item("bad", "✕", f"Not the record of a history: {check.head}", words + folded)
 
 
+def _anomalies(history: History, links: Links) -> str:
+    """All anomalies: how many of each name, and each in words, with its steps. One is chosen."""
+    assert history.anomalies
+    idle = history.idle() if any(it.name == "read-only anomaly" for it in history.found) else []
+    items = "".join(_anomaly(it, at == 0, idle, links) for at, it in enumerate(history.cycles))
+    left = len(history.found) - len(history.cycles)
+    more = f"<p>Cut: {left:,} more. <code>ANOMALIES</code> gives all.</p>" if left > 0 else ""
+    title = f"{len(history.found):,} anomalies: {by_name(history.found)}" if len(history.found) > 1 else "An anomaly"
+    return _item("bad", "↻", title, f'<p>{NO_ORDER}</p><ul class="anomalies">{items}</ul>{more}' + fold("ANOMALIES", [history.anomalies]))
+
+
+def _anomaly(it: Cycle, chosen: bool, idle: list[int], links: Links) -> str:
+    assert it.anomaly
+    words = _words(sentence(it.anomaly, idle), links)
+    return (
+        f'<li id="a{it.key}" class="anomaly{" chosen" if chosen else ""}" data-a="{it.key}" data-t="{" ".join(map(str, it.transactions))}" tabindex="-1">'
+        f'<p><a href="#a{it.key}" class="name" aria-label="{escape(it.name)} of {", ".join(map(str, it.transactions))}">{escape(it.name)}:</a> {words}</p>{_steps(it, links)}</li>'
+    )
+
+
+def _words(said: Said, links: Links) -> str:
+    """A sentence with links. A row is a code, since not each has a life on the page."""
+    names = (links.to(it) if isinstance(it, int) else f"<code>{escape(it[1])}</code>" if isinstance(it, tuple) else escape(it) for it in said.names)
+    return escape(said.pattern).format(*names)
+
+
+def _steps(it: Cycle, links: Links) -> str:
+    steps = "".join(
+        f'<li><span class="letter" aria-hidden="true">{letter(at)}</span> {links.to(edge.first)} before {links.to(edge.second)}: '
+        f'<span class="witness">{escape(edge.witness)}</span></li>'
+        for at, edge in enumerate(it.edges, 1)
+    )
+    return f'<ul class="cycle">{steps}</ul>'
+
+
 def _serial(history: History, links: Links) -> str:
     serial = history.serial
     folded = fold("SERIAL", [serial])
@@ -38,13 +75,9 @@ def _serial(history: History, links: Links) -> str:
     if word == "serial":
         return _item("good", "✓", "As if one after another", _order(list(serial.lines), links) + folded)
     if word == "cycle":
-        steps = "".join(
-            f'<li><span class="letter" aria-hidden="true">{letter(at)}</span> {links.to(edge.first)} before {links.to(edge.second)}: '
-            f'<span class="witness">{escape(edge.witness)}</span></li>'
-            for at, edge in enumerate(history.edges, 1)
-        )
-        body = f'<p>Each of these transactions has to come before the next one:</p><ul class="cycle">{steps}</ul>'
-        return _item("bad", "↻", f"No order explains it: a cycle of {len(history.edges)}", body + folded)
+        cycle = history.cycles[0]
+        body = f"<p>{NO_ORDER} Each of these has to come before the next one:</p>{_steps(cycle, links)}"
+        return _item("bad", "↻", f"No order explains it: a cycle of {len(cycle.edges)}", body + folded)
     if word == "undecided":
         words = "<p>No cycle was found, but one after another the transactions do not give the same.</p>"
         return _item("open", "?", "Undecided whether as if one after another", words + folded)

@@ -1,28 +1,67 @@
-// The verdicts at the top, with the least script of a cycle behind a button.
+// The verdicts at the top. Anomalies are a list by name, each of which can be chosen; the least script with one is behind a button.
 import { $, h, put, plural } from "./dom.js";
 import { call } from "./api.js";
+import { choose, state } from "./state.js";
 import { at, copied, failed, sentence } from "./results.js";
 
 const LETTERS = "abcdefghijklmnopqrstuvwxyz";
 const MARKS = { good: "✓", bad: "✕", open: "?" };
 export const letter = (number) => LETTERS[number] || String(number + 1);
 
-function verdict(it, first, below) {
+function verdict(it, below) {
   return h("div", { class: "verdict " + it.mood }, h("span", { class: "sign", "aria-hidden": "true" }, MARKS[it.mood]),
     h("div", {}, h("p", {}, h("b", {}, it.title + ". "), it.sentences.slice(0, 1).map(sentence)),
-      it.edges.length > 0 && h("ol", {}, it.edges.map((edge, number) => h("li", {}, h("span", { class: "letter" }, letter(first + number)), at(edge.a), " before ", at(edge.b), ": ", sentence(edge.says)))),
+      it.edges.length > 0 && steps(it.edges),
       it.order.length > 0 && it.order.length <= 30 && it.title.startsWith("As if") && h("p", { class: "soft" }, it.order.flatMap((number, place) => [place > 0 && " → ", at(number)])),
       it.edges.length === 0 && it.sentences.length > 1 && h("p", { class: "soft" }, it.sentences.slice(1).map((one) => [sentence(one), " "])),
       below, it.question === "CHECK" && h("details", {}, h("summary", {}, "what CHECK does not vouch for"), h("ul", {}, it.open.map((text) => h("li", {}, text))))));
 }
 
+// The steps of a cycle, with the letters of their arrows.
+const steps = (edges) => h("ol", {}, edges.map((edge, number) => h("li", {}, h("span", { class: "letter" }, letter(number)), at(edge.a), " before ", at(edge.b), ": ", sentence(edge.says))));
+
+// Shown at first; more are behind a button.
+const FIRST = 8;
+const key = (it) => it.transactions.join(".");
+
+// All anomalies, each a button. The chosen one has its steps, and its arrows in the timeline.
+export class Anomalies {
+  constructor(all, counted, more) {
+    this.all = all;
+    this.counted = counted;
+    this.more = more;
+    this.most = FIRST;
+    this.place = h("div", { class: "verdict bad anomalies" });
+  }
+
+  get chosen() { return this.all.find((it) => key(it) === state.a) || this.all[0] || null; }
+  edges() { return this.chosen ? this.chosen.edges : []; }
+  of(number) { return this.all.filter((it) => it.transactions.includes(number)); }
+
+  // Also moves to its first transaction.
+  choose(it) { choose({ a: key(it), t: it.transactions[0], k: null, row: null }); }
+
+  draw() {
+    const chosen = this.chosen, place = this.all.indexOf(chosen);
+    if (place >= this.most) this.most = place + 1;
+    const left = this.all.length - this.most;
+    put(this.place, h("span", { class: "sign", "aria-hidden": "true" }, MARKS.bad), h("div", {},
+      this.counted && h("p", {}, h("b", {}, this.counted.title + ". "), this.counted.sentences.map(sentence)),
+      h("ul", {}, this.all.slice(0, this.most).map((it) => h("li", { class: it === chosen ? "chosen" : null, "data-a": key(it) },
+        h("p", {}, h("button", { type: "button", class: "name", "aria-pressed": String(it === chosen), "aria-label": it.title + " of " + it.transactions.join(", "), onclick: () => this.choose(it) }, it.title + ":"), " ", sentence(it.sentences[0])),
+        it === chosen && [steps(it.edges), smaller("ANOMALIES", it.title.toLowerCase())]))),
+      left > 0 && h("p", {}, h("button", { type: "button", class: "all", onclick: () => { this.most = this.all.length; this.draw(); } }, plural(left, "more anomaly").replace("anomalys", "anomalies"))),
+      this.more && h("p", { class: "soft" }, this.more.title + ". ", this.more.sentences.map(sentence))));
+  }
+}
+
 // The least script in which a cycle stays.
-function smaller(question) {
+function smaller(question, name = "") {
   const place = h("div", {});
   const button = h("button", { type: "button", class: "reproduce", onclick: async () => {
     button.disabled = true;
     put(place, h("p", { class: "wait" }));
-    const got = await call("reproduce", { text: question }, "reproduce", place);
+    const got = await call("reproduce", { text: question, name }, "reproduce", place);
     button.disabled = false;
     if (!got) return put(place);
     if (got.error) return failed(place, got);
@@ -38,18 +77,19 @@ export function refused(desk) {
     h("details", {}, h("summary", {}, "which, and why"), desk.refused.map((it) => h("pre", {}, it.text)))));
 }
 
-// Asks, shows, and gives the edges of all cycles in the order of their letters.
+// Asks, shows, and gives the anomalies. Where the program has the shortest cycle alone, this is the only one.
 export async function verdicts(desk) {
   const place = $("verdicts");
   place.className = "wait";
   if (desk.refusals) put(place, refused(desk));
   const answer = await call("verdicts", {}, "verdicts", place);
   place.className = "";
-  if (!answer || answer.error) { failed(place, answer || { error: "" }); return []; }
-  let first = 0;
-  const bad = [...answer.verdicts].sort((a, b) => (b.mood === "bad") - (a.mood === "bad"));
-  const cycle = bad.find((it) => it.edges.length > 0);
-  const made = bad.map((it) => { const one = verdict(it, first, it === cycle && smaller(it.question)); first += it.edges.length; return one; });
-  put(place, made, desk.refusals > 0 && refused(desk));
-  return bad.flatMap((it) => it.edges);
+  if (!answer || answer.error) { failed(place, answer || { error: "" }); return new Anomalies([], null, null); }
+  const all = answer.verdicts.filter((it) => it.transactions.length > 0), summed = answer.verdicts.filter((it) => it.question === "ANOMALIES" && !it.transactions.length && it.mood === "bad");
+  const others = answer.verdicts.filter((it) => !all.includes(it) && !summed.includes(it)).sort((a, b) => (b.mood === "bad") - (a.mood === "bad"));
+  const found = new Anomalies(all, summed.find((it) => !/ more /.test(it.title)), summed.find((it) => / more /.test(it.title)));
+  if (all.length) found.draw();
+  else if (others.some((it) => it.edges.length)) found.edges = () => others.find((it) => it.edges.length).edges;
+  put(place, all.length > 0 && found.place, others.map((it) => verdict(it, it.edges.length > 0 && smaller(it.question))), desk.refusals > 0 && refused(desk));
+  return found;
 }
