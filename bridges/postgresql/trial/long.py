@@ -245,13 +245,13 @@ def check_faults_in_folds(window, gprom, out):
     texts, failures = script.split('\n'), []
     for place in [place for place in places if ' SET ' in texts[place - 1]][::max(1, len(places) // FAULTS)]:
         changed = [*texts]
-        changed[place - 1] = re.sub(r'= (-?)(\d)', r'= \g<1>1\2', changed[place - 1], count=1)
+        changed[place - 1] = re.sub(r'( SET \w+ = \(?-?)', r'\g<1>1', changed[place - 1], count=1)
         window.save(f'{out}-fault.script', '\n'.join(changed))
         for end in ('tsv', 'left'):
             window.save(f'{out}-fault.{end}', open_text(window.path(f'{out}.{end}')))
         lines = call([f'{HERE}/verify', window.path(f'{out}-fault'), '--tables', window.path('tables.sql'), '--slot', window.path('slot.txt'),
                       '--gprom', gprom], (0, 1))
-        if not any('(folded: ' in line and ': differs: ' in line for line in lines):
+        if not any('(folded: ' in line and ': differs: ' in line for line in lines) or 'of which differ' not in lines[-1]:
             failures.append(f'verify does not find that {texts[place - 1]!r} became {changed[place - 1]!r}')
     return failures
 
