@@ -40,14 +40,14 @@ class Part:
 
 
 def part_of(message: str, file: str | files.Names, line: int) -> Part:
-    fields = next(csv.reader([message.removeprefix('AUDIT: ')], strict=False), [])
+    fields: list[str] = next(csv.reader([message.removeprefix('AUDIT: ')], strict=False), [])
     if '\n' in message:                               # a text of several lines is one field
         fields = next(csv.reader(iter(message.removeprefix('AUDIT: ').splitlines(keepends=True))), [])
     if len(fields) < 9:
         raise UserError(f'{file}, line {line}: the record of pgAudit is cut off')
     if HIDDEN in (fields[7], fields[8]):
         raise UserError(f'{file}, line {line}: a record of pgAudit without its text or parameters: set pgaudit.log_parameter = on')
-    given = [] if fields[8] == '<none>' else next(csv.reader([fields[8]]), [])
+    given: list[str] = [] if fields[8] == '<none>' else next(csv.reader([fields[8]]), [])
     return Part(fields[1], fields[2], fields[4], fields[7], {at: text_constant(text or None) for at, text in enumerate(given, 1)})
 
 

@@ -6,10 +6,13 @@ is that of its events, in microseconds where the connector gives them.
 import base64
 import json
 import re
+from collections.abc import Iterator
 from datetime import date, datetime, timedelta
+from typing import Any
 
 from . import UserError, decoding, files
-from .schema import holder
+from .decoding import Commit
+from .schema import Table, Type, holder
 from .slots import Slot, quoted
 
 SOURCE = b'"source":{'
@@ -24,9 +27,10 @@ EPOCH = datetime(1970, 1, 1)
 class Debezium(Slot):
     """The file of a consumer."""
 
-    def pieces(self):
+    def pieces(self) -> Iterator[bytes]:
         """The lines of each transaction."""
-        lines, xid, done = [], b'', set()
+        lines: list[bytes] = []
+        xid, done = b'', set[bytes]()
         with files.opened(self.file) as opened:
             for number, line in enumerate(opened, 1):
                 mine = self.xid_in(line, number)
@@ -44,7 +48,7 @@ class Debezium(Slot):
         if lines:
             yield b''.join(lines)
 
-    def xid_in(self, line, number):
+    def xid_in(self, line: bytes, number: int) -> bytes:
         """The transaction of an event; b'' of a line that is none, such as a tombstone or a heartbeat."""
         at = line.find(SOURCE)                          # no text has these signs, since its quotes are escaped
         if at < 0 or b'"op":"r"' in line:
@@ -54,21 +58,21 @@ class Debezium(Slot):
             raise UserError(f'{self.file}, line {number}: an event without a txId')
         return found[1]
 
-    def head(self, piece):
+    def head(self, piece: bytes) -> tuple[str, str]:
         source = event_of(piece[:piece.index(b'\n')])['source']
         microseconds = int(source.get('ts_us') or int(source['ts_ms']) * 1000)
-        return source['txId'], (EPOCH + timedelta(microseconds=microseconds)).isoformat(' ', 'microseconds')
+        return str(source['txId']), (EPOCH + timedelta(microseconds=microseconds)).isoformat(' ', 'microseconds')
 
-    def time_in(self, piece):
+    def time_in(self, piece: bytes) -> bytes:
         return self.head(piece)[1].encode()
 
-    def fill(self, commit, text, tables):
+    def fill(self, commit: Commit, text: bytes, tables: dict[str, Table]) -> None:
         for line in text.split(b'\n'):
             if line:
                 self.fill_event(commit, event_of(line), tables)
 
     @staticmethod
-    def fill_event(commit, event, tables):
+    def fill_event(commit: Commit, event: dict[str, Any], tables: dict[str, Table]) -> None:
         if event['op'] not in KINDS and event['op'] != EMPTIED:
             return
         schema, name = event['source']['schema'], event['source']['table']
@@ -83,21 +87,21 @@ class Debezium(Slot):
             decoding.change(commit, table, KINDS[event['op']], old, new, name)
 
     @staticmethod
-    def needle(column, number):
+    def needle(column: str, number: int) -> bytes:
         return f'{quoted(column)}:{number}'.encode()
 
     @staticmethod
-    def needle_of_table(name):
+    def needle_of_table(name: str) -> bytes:
         return f'"table":{quoted(name)}'.encode()
 
 
-def event_of(line):
+def event_of(line: bytes) -> dict[str, Any]:
     """An event without the schemas around it. Numbers are texts."""
     event = json.loads(line, parse_int=str, parse_float=str)
-    return event.get('payload', event)
+    return dict(event.get('payload', event))
 
 
-def values(table, row):
+def values(table: Table, row: dict[str, Any] | None) -> dict[str, Any] | None:
     """{column: text or None} of a row, as a slot of test_decoding has them."""
     if row is None:
         return None
@@ -105,7 +109,7 @@ def values(table, row):
     return {name: text_of(value, kinds.get(name)) for name, value in row.items()}
 
 
-def text_of(value, kind):
+def text_of(value: Any, kind: Type | None) -> Any:
     """A value as the server prints it."""
     if isinstance(value, bool):
         return 't' if value else 'f'
@@ -120,7 +124,7 @@ def text_of(value, kind):
     return value
 
 
-def moment(number, kind):
+def moment(number: int, kind: Type) -> str:
     """A date in days, a time or a timestamp in milli- or microseconds, from 1970 on."""
     if kind.kind == 'date':
         return (date(1970, 1, 1) + timedelta(days=number)).isoformat()

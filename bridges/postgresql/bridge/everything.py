@@ -42,6 +42,7 @@ class Before:
     tables: dict[str, Table]
     keyed: dict[str, Touched] = field(default_factory=dict)
     plain: dict[str, Counter[Row]] = field(default_factory=dict)
+    emptied: set[str] = field(default_factory=set)        # tables without a key whose rows a TRUNCATE took
 
     def __post_init__(self) -> None:
         for name, table in self.tables.items():
@@ -52,8 +53,11 @@ class Before:
 
     def change(self, name: str, old: Row | None, new: Row | None) -> None:
         """Notes a change; a TRUNCATE has neither row."""
-        if old is None and new is None:
-            (self.keyed.get(name) or self.plain.get(name, {})).clear()
+        if old is None and new is None and name in self.keyed:
+            self.keyed[name].clear()
+        elif old is None and new is None:
+            self.plain[name].clear()
+            self.emptied.add(name)
         for row, count in ((old, -1), (new, 1)):
             if row is not None and name in self.keyed:
                 self.keyed[name][self.tables[name].key_of(row)] = row if count > 0 else None
@@ -103,7 +107,7 @@ class Writer:
     def key(self, name: str, row: Row) -> Row:
         """What tells a row from others: its key, or all of its cells."""
         table = self.shaped[name]
-        return table.key_of(row) if table.key else row
+        return tuple(table.key_of(row)) if table.key else row
 
     def shape(self, name: str, row: Row) -> Row:
         try:
@@ -119,7 +123,7 @@ class Writer:
         table = self.tables[name]
         rows = (row for _, file in files for row in read_rows(file, table))
         if not table.key:
-            for row, count in (Counter(rows) + found.plain[name]).items():
+            for row, count in (Counter(() if name in found.emptied else rows) + found.plain[name]).items():
                 yield from [self.shape(name, row)] * count
             return
         seen, touched = set(), found.keyed[name]

@@ -3,6 +3,7 @@ import csv
 import io
 import threading
 import time
+from typing import Any, cast
 
 from .cluster import Cluster
 from .judge import HERE, call, verified
@@ -32,9 +33,10 @@ STATEMENTS = [                                          # (session, text, parame
 WAITING = [(ONE, 'BEGIN'), (ONE, 'UPDATE acct SET bal = bal + 1 WHERE id = 7'), (OTHER, 'UPDATE acct SET bal = bal + 10 WHERE id = 7'), (ONE, 'COMMIT')]
 
 
-def work(cluster):
+def work(cluster: Cluster) -> None:
+    """What two sessions do, one statement after another, and at last one waits for the other."""
     sessions = [cluster.connect(), cluster.connect()]
-    for at, text, *parameters in STATEMENTS:
+    for at, text, *parameters in cast(list[Any], STATEMENTS):
         time.sleep(PAUSE)
         try:
             sessions[at].send(text, *parameters)

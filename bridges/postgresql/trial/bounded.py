@@ -11,7 +11,7 @@ from bridge.terms import Statement
 ROWS, COMMITS, STEPS, LONG = 2000, 200, 4, 30.0         # seconds of a processor that it may take
 
 
-def check():
+def check() -> list[str]:
     """What is wrong: a transaction of statements that waited long, none of which writes what the slot shows, takes long or is not told."""
     table = Table('note', [Column('who', TEXT), Column('amount', INT)], [])
     start = [(f'n{number % 50}', number) for number in range(ROWS)]

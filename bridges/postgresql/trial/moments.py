@@ -7,7 +7,14 @@ import time
 from collections import Counter
 from collections.abc import Iterator
 from dataclasses import dataclass
+from pathlib import Path
 
+from bridge import everything
+from bridge.decoding import Commit
+from bridge.schema import INT, Column, Table
+from bridge.slots import TestDecoding
+
+from .cluster import Cluster
 from .judge import HERE, ask, call
 from .window import Ended, Window, cell_of
 
@@ -22,7 +29,7 @@ class Moment:
     files: dict[str, str]
 
 
-def take(cluster, window: Window) -> Moment:
+def take(cluster: Cluster, window: Window) -> Moment:
     """Stops all writers for a moment, exports a snapshot, and keeps the rows that another session sees in it when they go on.
 
     The lock is given when nobody has an uncommitted row, so the snapshot has all that was committed before the moment.
@@ -110,3 +117,17 @@ def in_sqlite(window: Window, gprom: str, questions: list[str]) -> list[list[str
 
 def quoted(cell: object) -> str:
     return "'" + cell.replace("'", "''") + "'" if isinstance(cell, str) else str(cell)
+
+
+def check_emptied(folder: str) -> list[str]:
+    """What is wrong with the row versions of a table that a TRUNCATE emptied before the window: the given rows are gone."""
+    tables = {'acct': Table('acct', [Column('id', INT)], ['id'])}
+    before = everything.Before(tables)
+    for new in None, (3,):
+        before.change('acct', None, new)
+    given = Path(folder, 'acct.csv')
+    given.write_text('id\n1\n2\n', encoding='utf-8')
+    commit = Commit('9', 0.0, [('acct', None, (4,))])
+    everything.Writer(folder, TestDecoding(''), tables, tables, {}).write(before, {'acct': [('acct', str(given))]}, [(2, commit)], ['acct'])
+    lines = Path(folder, 'acct_versions.copy').read_text(encoding='utf-8')
+    return [] if lines == '1001.1.1\t0\t\\N\t3\n1001.1.2\t2\t\\N\t4\n' else [f'the versions are {lines!r}']
