@@ -37,7 +37,9 @@ def _anomalies(history: History, links: Links) -> str:
     """All anomalies: how many of each name, and each in words, with its steps. One is chosen."""
     assert history.anomalies
     idle = history.idle() if any(it.name == "read-only anomaly" for it in history.found) else []
-    items = "".join(_anomaly(it, at == 0, idle, links) for at, it in enumerate(history.cycles))
+    names = list(dict.fromkeys(it.name for it in history.cycles))
+    listed = sorted(history.cycles, key=lambda it: names.index(it.name))
+    items = "".join(_anomaly(it, at == 0, idle, links) for at, it in enumerate(listed))
     left = len(history.found) - len(history.cycles)
     more = f"<p>Cut: {left:,} more. <code>ANOMALIES</code> gives all.</p>" if left > 0 else ""
     title = f"{len(history.found):,} anomalies: {by_name(history.found)}" if len(history.found) > 1 else "An anomaly"

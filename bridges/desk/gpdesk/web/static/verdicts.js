@@ -20,8 +20,8 @@ function verdict(it, below) {
 // The steps of a cycle, with the letters of their arrows.
 const steps = (edges) => h("ol", {}, edges.map((edge, number) => h("li", {}, h("span", { class: "letter" }, letter(number)), at(edge.a), " before ", at(edge.b), ": ", sentence(edge.says))));
 
-// Shown at first; more are behind a button.
-const FIRST = 8;
+// Of each name so many are shown at first; more are behind a button.
+const EACH = 3;
 const key = (it) => it.transactions.join(".");
 
 // All anomalies, each a button. The chosen one has its steps, and its arrows in the timeline.
@@ -30,7 +30,8 @@ export class Anomalies {
     this.all = all;
     this.counted = counted;
     this.more = more;
-    this.most = FIRST;
+    this.whole = false;
+    this.names = [...new Set(all.map((it) => it.title))];
     this.place = h("div", { class: "verdict bad anomalies" });
   }
 
@@ -42,15 +43,15 @@ export class Anomalies {
   choose(it) { choose({ a: key(it), t: it.transactions[0], k: null, row: null }); }
 
   draw() {
-    const chosen = this.chosen, place = this.all.indexOf(chosen);
-    if (place >= this.most) this.most = place + 1;
-    const left = this.all.length - this.most;
+    const chosen = this.chosen;
+    const listed = this.names.flatMap((name) => this.all.filter((it) => it.title === name).filter((it, place) => this.whole || place < EACH || it === chosen));
+    const left = this.all.length - listed.length;
     put(this.place, h("span", { class: "sign", "aria-hidden": "true" }, MARKS.bad), h("div", {},
       this.counted && h("p", {}, h("b", {}, this.counted.title + ". "), this.counted.sentences.map(sentence)),
-      h("ul", {}, this.all.slice(0, this.most).map((it) => h("li", { class: it === chosen ? "chosen" : null, "data-a": key(it) },
+      h("ul", {}, listed.map((it) => h("li", { class: it === chosen ? "chosen" : null, "data-a": key(it) },
         h("p", {}, h("button", { type: "button", class: "name", "aria-pressed": String(it === chosen), "aria-label": it.title + " of " + it.transactions.join(", "), onclick: () => this.choose(it) }, it.title + ":"), " ", sentence(it.sentences[0])),
         it === chosen && [steps(it.edges), smaller("ANOMALIES", it.title.toLowerCase())]))),
-      left > 0 && h("p", {}, h("button", { type: "button", class: "all", onclick: () => { this.most = this.all.length; this.draw(); } }, plural(left, "more anomaly").replace("anomalys", "anomalies"))),
+      left > 0 && h("p", {}, h("button", { type: "button", class: "all", onclick: () => { this.whole = true; this.draw(); } }, plural(left, "more anomaly").replace("anomalys", "anomalies"))),
       this.more && h("p", { class: "soft" }, this.more.title + ". ", this.more.sentences.map(sentence))));
   }
 }
