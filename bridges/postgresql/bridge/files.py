@@ -1,7 +1,8 @@
 """Files of a user as streams of bytes: one, or several one behind another, each of which may be packed by gzip."""
 import gzip
 import io
-from collections.abc import Iterator
+import os
+from collections.abc import Callable, Iterator
 from contextlib import contextmanager
 from typing import IO, cast
 
@@ -14,6 +15,29 @@ class Names(tuple[str, ...]):
 
     def __str__(self) -> str:
         return ' '.join(self)
+
+
+class Watched(io.RawIOBase):
+    """A stream whose reader is told how far it is: the name, and the bytes that were read and those that there are, packed ones as they lie there."""
+
+    def __init__(self, stream: IO[bytes], name: str, tell: Callable[[str, int, int], None], done: int) -> None:
+        self.stream, self.name, self.tell_how_far, self.done = stream, name, tell, done
+        self.size = sum(map(os.path.getsize, name.split(' ') if not os.path.exists(name) else [name]))
+
+    def readable(self) -> bool:
+        return True
+
+    def readinto(self, buffer: bytearray) -> int:                         # type: ignore[override]
+        block = self.stream.read(len(buffer))
+        buffer[:len(block)] = block
+        self.done += len(block)
+        self.tell_how_far(self.name, self.done, self.size)
+        return len(block)
+
+
+class Watch:
+    """Who is told how far files are read, if anybody is."""
+    tell: Callable[[str, int, int], None] | None = None
 
 
 class Joined(io.RawIOBase):
@@ -61,7 +85,8 @@ def opened(name: str | Names, offset: int = 0) -> Iterator[IO[bytes]]:
                 offset -= len(block)
         else:
             stream.seek(offset)
-        yield stream
+        watched = Watch.tell and io.BufferedReader(Watched(stream, str(name), Watch.tell, offset), BLOCK)
+        yield watched or stream
 
 
 def names(given: list[str]) -> str | Names:

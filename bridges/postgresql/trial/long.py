@@ -1,10 +1,13 @@
 """Windows of long logs: the way from a row to its incident by `find` and `convert --around`, and random windows beside a replay of other code."""
 import collections
+import contextlib
 import csv
 import gzip
 import os
+import pty
 import random
 import re
+import subprocess
 import time
 from concurrent.futures import ThreadPoolExecutor
 from dataclasses import dataclass, field
@@ -332,6 +335,22 @@ def check_whole(found, gprom, source):
                        [f'{len(verdicts)} transactions, and the last line is {last}'])
 
 
+def check_progress(found):
+    """What is wrong with the line that tells on a terminal how far `convert` is, and is gone at its end."""
+    window, (reader, writer) = found.window, pty.openpty()
+    last = Commits(window.path('slot.txt')).all[-1][0]
+    words = ['convert', 'log.csv', 'told', '--tables', 'tables.sql', '--slot', 'slot.txt', '--from', f'xid:{last}']
+    with subprocess.Popen([f'{HERE}/{words[0]}', *words[1:]], cwd=window.folder, stdout=subprocess.DEVNULL, stderr=writer) as running:
+        os.close(writer)
+        told = b''
+        with contextlib.suppress(OSError):              # which ends a terminal
+            while part := os.read(reader, 1 << 16):
+                told += part
+    os.close(reader)
+    is_told = re.search(rb'looking for the transactions in the slot: slot\.txt, \d+ of \d+ MB', told) and told.endswith(b'\r\x1b[K')
+    return [] if is_told and not running.returncode else [f'the terminal has {told[-300:]!r}']
+
+
 def open_text(name):
     """The text of a file."""
     with open(name, encoding='utf-8') as opened:
@@ -471,6 +490,7 @@ def run(cluster, report, transactions, windows, seed):
     work = record_workload(cluster, report.window('a log of random transactions'), max(8, transactions // 100), seed)
     run_moments(cluster, report, long)
     report.later(report.check, 'files and plugins of a long log', check_readers, long)
+    report.later(report.check, 'how far a long log is read', check_progress, long)
     report.later(report.check, 'a window from a chained transaction on', check_chain, record_chain(cluster, report.window('a chain')), report.gprom)
     for source in (LOG, CAPTURE) if cluster.library else (LOG,):
         report.later(report.check, f'an incident in a long log, by {source.name}', check_incident, long, report.gprom, source)
