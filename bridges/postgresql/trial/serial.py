@@ -1,7 +1,8 @@
 """Asks SERIAL and ANOMALIES of a random run: whether its committed transactions could have run one after another, and every cycle.
 
 PostgreSQL promises it under SERIALIZABLE. If there is a cycle, the bridge may have put the start of a transaction on the wrong side
-of a COMMIT, so that is tried (`starts`). Under REPEATABLE READ there can be cycles, and each has a write skew: two lines in a row,
+of a COMMIT, so that is tried (`starts`); or the log's times do not show the order in which a server under load did things, which the
+capture of the same run knows. Under REPEATABLE READ there can be cycles, and each has a write skew: two lines in a row,
 A before B and B before C, where both read what the next one, running beside them, then wrote. So none is a lost update or a read
 skew, which snapshot isolation forbids: that is a check of the server, of gprom and of the names at once. Under READ COMMITTED
 they are counted by name.
@@ -16,11 +17,12 @@ from gprom.anomalies import by_name, full_name
 from gprom.answers import Anomaly, anomalies
 from gprom.program import Answer
 
-from .judge import LOG, ask
+from .judge import CAPTURE, LOG, ask, convert, sources_of, verify
 from .starts import Starts
 
 MOVED = 'serial with a start on the other side of a COMMIT'
-ANSWERS = ('serial', MOVED, 'cycle', 'undecided')
+BY_CAPTURE = 'serial by the capture of the same run'
+ANSWERS = ('serial', MOVED, BY_CAPTURE, 'cycle', 'undecided')
 STEP = re.compile(r'(\d+) before (\d+) : .*')
 READ_BEFORE = re.compile(r'(\d+) before (\d+) : \1\.\d+ read .* at \d+, \2 wrote it as \d+')
 FORBIDDEN = ('lost update', 'read skew')                # under snapshot isolation
@@ -75,7 +77,7 @@ def wrong_anomalies(asked):
     if asked.anomalies is None:
         return []
     firsts = [[str(number) for number in it.transactions] for it in asked.anomalies[:1]]
-    cycles = [asked.cycle()] if asked.answer in ('cycle', MOVED) else []
+    cycles = [asked.cycle()] if asked.answer in ('cycle', MOVED, BY_CAPTURE) else []
     if firsts != cycles:
         return [f'ANOMALIES: the first of {len(asked.anomalies)} is {firsts}, and that of SERIAL {cycles}']
     if asked.level != 'REPEATABLE READ':
@@ -101,7 +103,21 @@ def wrong_answer(asked, window, gprom):
         print(f"{os.path.basename(window.folder)}: {cycle}; serial, if {' and '.join(moves)}", flush=True)
         asked.answer = MOVED
         return []
+    if asked.answer == 'cycle' and is_guessed and is_serial_by_capture(window, gprom):
+        print(f"{os.path.basename(window.folder)}: {cycle}; serial by the capture", flush=True)
+        asked.answer = BY_CAPTURE
+        return []
     return [cycle]
+
+
+def is_serial_by_capture(window, gprom):
+    """Whether the exact record of the same run has an order: then the log's script has a statement in another place than the server."""
+    if CAPTURE not in sources_of(window):
+        return False
+    convert(window, CAPTURE, out='exact')
+    verify(window, gprom, 'exact')
+    (head, _), = ask(gprom, window.path('exact.dump'), ['SERIAL'])
+    return head.split()[0] == 'serial'
 
 
 def summary(made):
