@@ -172,34 +172,46 @@ class Owners:
         """For each number of commits the States, by how far each session is in its transactions."""
         place, _ = self.passed(tuple(0 for _ in self.queues), 0, range(len(self.queues)))
         layers, self.edges = [{place: State(0, 0.0)}], []
-        for at, commit in enumerate(self.commits):
-            ways = [(owner, cost, distance(commit, owner) if owner else 0.0, *self.places.get(id(owner), (None, 0))) for owner, cost in self.choices(at)]
-            ending = {number for number, queue in enumerate(self.queues) if at in queue.ends}
-            found, edges = {}, []
-            for place, state in layers[-1].items():
-                for owner, cost, far, number, own in ways:
-                    after, unused = place, 0
-                    if number is not None:
-                        if (unused := self.queues[number].unused(place[number], own)) is None:
-                            continue
-                        after = *place[:number], own if owner.commits_itself else own + 1, *place[number + 1:]
-                    then, more = self.passed(after, at + 1, ending if number is None else ending | {number})
-                    cost_of_all = cost + UNUSED * (unused + more)
-                    edges.append((place, then, owner, cost_of_all))
-                    worth = state.cost + cost_of_all, state.far + far
-                    if then not in found or worth < found[then].worth():
-                        found[then] = State(*worth, state, owner)
+        for at in range(len(self.commits)):
+            found, edges = self.after(layers[-1], at, self.choices(at))
+            if not found:                             # the log contradicts itself, as where it has a line twice
+                found, edges = self.after(layers[-1], at, [self.nobody(at)])
             least = min(state.cost for state in found.values())
             kept = sorted(found.items(), key=lambda item: item[1].worth())[:STATES]
             layers.append({then: state for then, state in kept if state.cost <= least + MARGIN})
             self.edges.append([edge for edge in edges if edge[1] in layers[-1]])
         return layers
 
+    def after(self, layer, at, choices):
+        """The States behind a commit, given those before it and whose it may be; and the steps from one to the other."""
+        commit = self.commits[at]
+        ways = [(owner, cost, distance(commit, owner) if owner else 0.0, *self.places.get(id(owner), (None, 0))) for owner, cost in choices]
+        ending = {number for number, queue in enumerate(self.queues) if at in queue.ends}
+        found, edges = {}, []
+        for place, state in layer.items():
+            for owner, cost, far, number, own in ways:
+                after, unused = place, 0
+                if number is not None:
+                    if (unused := self.queues[number].unused(place[number], own)) is None:
+                        continue
+                    after = *place[:number], own if owner.commits_itself else own + 1, *place[number + 1:]
+                then, more = self.passed(after, at + 1, ending if number is None else ending | {number})
+                cost_of_all = cost + UNUSED * (unused + more)
+                edges.append((place, then, owner, cost_of_all))
+                worth = state.cost + cost_of_all, state.far + far
+                if then not in found or worth < found[then].worth():
+                    found[then] = State(*worth, state, owner)
+        return found, edges
+
     def choices(self, at):
         """The transactions that a commit may be given, with their costs."""
         if at in self.known:
             return [(self.known[at], 0)]
-        return [*self.ways.get(at, ()), (None, UNLOGGED if self.commits[at].tables else 0)]
+        return [*self.ways.get(at, ()), self.nobody(at)]
+
+    def nobody(self, at):
+        """A commit that the log has no statements of, and its cost."""
+        return None, UNLOGGED if self.commits[at].tables else 0
 
     def passed(self, place, at, numbers):
         """How far the sessions are, where some of them pass the transactions that can make no commit from one on; and how many wrote for nothing."""
