@@ -1,8 +1,10 @@
 """The records of pgAudit in the place of durations: the same script is made of the same run."""
 import csv
 import io
+import os
 import threading
 import time
+from functools import partial
 from typing import Any, cast
 
 from .cluster import Cluster
@@ -17,7 +19,7 @@ INSERT INTO acct SELECT n, 100 FROM generate_series(1, 8) n;
 CREATE FUNCTION pay(payer INTEGER, payee INTEGER, amount INTEGER) RETURNS void LANGUAGE plpgsql AS $$ BEGIN
   UPDATE acct SET bal = bal - amount WHERE id = payer; UPDATE acct SET bal = bal + amount WHERE id = payee; END $$;
 '''
-PAUSE = 0.03                                            # between statements, so that the times of both kinds of records give one order
+PAUSES = (0.03, 0.1, 0.3)                               # between statements, so that the times of both kinds of records give one order: on a machine under load longer ones
 ONE, OTHER = 0, 1
 STATEMENTS = [                                          # (session, text, parameters)
     (ONE, 'BEGIN'), (ONE, 'SELECT bal FROM acct WHERE id = 1'), (OTHER, 'UPDATE acct SET bal = bal + 5 WHERE id = 2'),
@@ -33,11 +35,11 @@ STATEMENTS = [                                          # (session, text, parame
 WAITING = [(ONE, 'BEGIN'), (ONE, 'UPDATE acct SET bal = bal + 1 WHERE id = 7'), (OTHER, 'UPDATE acct SET bal = bal + 10 WHERE id = 7'), (ONE, 'COMMIT')]
 
 
-def work(cluster: Cluster) -> None:
+def work(cluster: Cluster, pause: float) -> None:
     """What two sessions do, one statement after another, and at last one waits for the other."""
     sessions = [cluster.connect(), cluster.connect()]
     for at, text, *parameters in cast(list[Any], STATEMENTS):
-        time.sleep(PAUSE)
+        time.sleep(pause)
         try:
             sessions[at].send(text, *parameters)
             sessions[at].receive()
@@ -45,7 +47,7 @@ def work(cluster: Cluster) -> None:
             pass                                        # which the log has too
     waits = threading.Thread(target=lambda: sessions[OTHER].execute(WAITING[2][1]))
     for at, text in WAITING:
-        time.sleep(PAUSE)
+        time.sleep(pause)
         if at == OTHER:
             waits.start()
         else:
@@ -64,10 +66,23 @@ def without_durations(log: bytes) -> str:
 
 
 def check(folder: str, gprom: str) -> list[str]:
-    """What is wrong: the scripts of both kinds of records differ, or one has a transaction that is not as the other tells."""
+    """What is wrong: the scripts of both kinds of records differ, or one has a transaction that is not as the other tells. A record without a duration
+    tells only when a statement began, so where each pause is too short for the machine, the run with the next one decides."""
+    failures: list[str] = []
+    for pause in PAUSES:
+        own = os.path.join(folder, str(pause))
+        os.makedirs(own)
+        failures = check_run(own, gprom, pause)
+        if not failures:
+            break
+    return failures
+
+
+def check_run(folder: str, gprom: str, pause: float) -> list[str]:
+    """What is wrong with one run."""
     window = Window(folder)
     with Cluster(audits=True) as cluster:
-        record(cluster, window, SETUP, work)
+        record(cluster, window, SETUP, partial(work, pause=pause))
     with open(window.path('log.csv'), 'rb') as opened:
         window.save('audit.csv', without_durations(opened.read()))
     made = []
