@@ -8,7 +8,7 @@ import time
 from collections.abc import Iterator
 from pathlib import Path
 
-from browser import Browser
+from browser import MOST_WAITING, Browser
 
 from .cases import ANOMALIES, CASES, CYCLES, SEEN
 from .pages import Pages
@@ -18,8 +18,6 @@ Faults = Iterator[tuple[str, str]]
 
 # The processor time in seconds that a page may take, and that its opening may take in the browser.
 MOST_MAKING, MOST_OPENING = 5.0, 2.0
-# The seconds after which what a click changes has to be there.
-MOST_WAITING = 10.0
 
 
 def seen(browser: Browser, selector: str) -> str:
