@@ -1,12 +1,18 @@
 """Compares what engines make of the text of `gprom sql` with the answers of `gprom ask`."""
+
+from __future__ import annotations
+
 import collections
 import re
+from collections.abc import Sequence
 from dataclasses import dataclass, field
+from pathlib import Path
 
-from gprom import answers as forms
+from gprom.answers import Row, Span, lines_of, row_values, span
+from gprom.program import Program
 
-from . import Failure, dump, printed
-from .histories import questions_of, transactions_of
+from . import Edit, Engine, Failure, Rows, dump, printed
+from .histories import History, questions_of, transactions_of
 
 EXPLAIN = re.compile(r'^\s*EXPLAIN\s+', re.I)
 PLAIN = re.compile(r'\s*(?:AS\s+OF|REENACT)\s', re.I)
@@ -26,13 +32,21 @@ class Counts:
     left_out: int = 0                                   # queries whose rows `ask` does not print, for a limit
     failures: list[str] = field(default_factory=list)
 
-    def add(self, other):
+    def add(self, other: Counts) -> None:
         """Adds what another history gave."""
-        for name in ('rows', 'refusals', 'others', 'left_out', 'failures'):
-            setattr(self, name, getattr(self, name) + getattr(other, name))
+        self.rows += other.rows
+        self.refusals += other.refusals
+        self.others += other.others
+        self.left_out += other.left_out
+        self.failures += other.failures
 
 
-def history(given, program, engines, folder, edit=lambda text: text):
+def as_it_is(text: str) -> str:
+    """The edit that makes no fault."""
+    return text
+
+
+def history(given: History, program: Program, engines: Sequence[Engine], folder: Path, edit: Edit = as_it_is) -> Counts:
     """Compares all questions of a history. `edit` makes faults in the text."""
     counts = Counts()
     made, refusals = dump.run(program, folder, given.script)
@@ -58,7 +72,7 @@ def history(given, program, engines, folder, edit=lambda text: text):
     return counts
 
 
-def run(engine, tables, texts):
+def run(engine: Engine, tables: str, texts: Sequence[str]) -> Sequence[Rows]:
     """What an engine gives for each text: rows, or a Failure."""
     try:
         return engine.run(tables, texts)
@@ -66,18 +80,18 @@ def run(engine, tables, texts):
         return [failure] * len(texts)
 
 
-def of_log_alone(made, questions, whole):
+def of_log_alone(made: dump.Dump, questions: Sequence[str], whole: str) -> Counts:
     """The queries are those of the log, whatever rows the dump has."""
     bare = made.without_rows().sql(questions)
     return Counts(others=1) if printed.read(bare).parts == printed.read(whole).parts else Counts(failures=['the dump without its rows has other queries'])
 
 
-def expected_rows(made, questions, parts, counts):
+def expected_rows(made: dump.Dump, questions: Sequence[str], parts: Sequence[printed.Part], counts: Counts) -> list[list[Row] | None]:
     """The rows that `ask` prints for each question, None where there is nothing to run, and those of each table of row versions."""
     bare = [EXPLAIN.sub('', question, count=1) for question in questions]
     explained = [f'EXPLAIN {question}' if PLAIN.match(question) else question for question in questions]
     answers = made.ask([*bare, *explained, *(f'VERSIONS OF {table}' for table in made.tables)])
-    rows = [None] * len(parts)
+    rows: list[list[Row] | None] = [None] * len(parts)
     for at, part in enumerate(parts):
         head, said = answers[at].head, answers[len(parts) + at].head
         if part.refusal is not None or REFUSAL.match(said):
@@ -87,17 +101,16 @@ def expected_rows(made, questions, parts, counts):
         elif COMPUTED.match(head):
             counts.left_out += 1
         else:
-            rows[at] = [forms.row_values(line) for line in answers[at].lines]
-    return rows + [[version(line) for line in answer.lines] for answer in answers[2 * len(parts):]]
+            rows[at] = [row_values(line) for line in answers[at].lines]
+    return [*rows, *(list(map(version, lines_of(answer, span))) for answer in answers[2 * len(parts):])]
 
 
-def version(line):
+def version(it: Span) -> Row:
     """A row version as a row: its identity, the version that wrote it, the one that ended it or NULL, and its cells."""
-    span = forms.span(line)
-    return (span.identity, span.start, span.end, *span.row)
+    return (it.identity, it.start, it.end, *it.row)
 
 
-def difference(expected, found):
+def difference(expected: Sequence[Row], found: Rows) -> str | None:
     """The first difference of two bags of rows, or None."""
     if isinstance(found, Failure):
         return str(found)

@@ -1,8 +1,14 @@
 """Faults in the text of `gprom sql`: a comparison that does not find each of them is worth nothing."""
+
+from __future__ import annotations
+
 import re
 
-# Each with a pattern and what stands in its place.
-FAULTS = {
+from . import Edit
+
+# A pattern, and what stands in its place.
+Fault = tuple[str, str]
+FAULTS: dict[str, Fault] = {
     'a version has the rows that it ended': (r'(\d+) < "\$to"', r'\1 <= "$to"'),
     'a version has not the rows that it wrote': (r'"\$from" <= ', '"$from" < '),
     'a version has only rows that were ended later': (r'"\$to" IS NULL OR ', ''),
@@ -12,10 +18,10 @@ FAULTS = {
     'a DELETE takes rows of which its condition is unknown': (r' IS NOT TRUE\)', ' IS FALSE)'),
     'a row that is written has no mark': (r'THEN 1 ELSE c(\d+) END', r'THEN 0 ELSE c\1 END'),
 }
-WRONG_TYPE = {'a NULL is a number among texts': (r'CAST\(NULL AS VARCHAR\(255\)\)', 'CAST(NULL AS BIGINT)')}
+WRONG_TYPE: dict[str, Fault] = {'a NULL is a number among texts': (r'CAST\(NULL AS VARCHAR\(255\)\)', 'CAST(NULL AS BIGINT)')}
 
 
-def edit_of(fault):
+def edit_of(fault: Fault) -> Edit:
     """What makes a fault in a text."""
     pattern, replacement = fault
     return lambda text: re.sub(pattern, replacement, text)

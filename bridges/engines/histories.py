@@ -1,10 +1,15 @@
 """What is compared: the examples of the repository, cases by hand, and random scripts with random questions."""
+
+from __future__ import annotations
+
 import random
+from collections.abc import Iterator, Sequence
 from dataclasses import dataclass, field
 from pathlib import Path
 
 from gprom.answers import lines_of, listed
 
+from .dump import Dump
 from .scripts import Script
 
 HERE = Path(__file__).resolve().parent
@@ -32,7 +37,7 @@ class Transaction:
     committed: bool
 
 
-def by_hand(folder):
+def by_hand(folder: Path) -> Iterator[History]:
     """The scripts of a folder, with their questions."""
     for path in sorted(folder.glob('*.script')):
         questions = path.with_suffix('.questions')
@@ -40,26 +45,26 @@ def by_hand(folder):
         yield History(path.stem, path.read_text(encoding='utf-8'), [line for line in lines if line.strip() and not line.strip().startswith('--')])
 
 
-def random_history(seed):
+def random_history(seed: int) -> History:
     """The random script of this number."""
     made = Script(random.Random(seed), LENGTH)
     return History(f'random {seed}', ''.join(f'{line}\n' for line in made.lines), made=made)
 
 
-def transactions_of(dump):
+def transactions_of(dump: Dump) -> list[Transaction]:
     """The transactions of a dump, by their numbers."""
     [listing] = dump.ask(['TRANSACTIONS'])
     return [Transaction(it.number, it.statements, it.version is not None) for it in lines_of(listing, listed)]
 
 
-def states_of(transactions):
+def states_of(transactions: Sequence[Transaction]) -> list[str]:
     """Every state that can be explained: each version, and what each committed transaction saw and made."""
     committed = [it for it in transactions if it.committed]
     return [*(f'AS OF {version}' for version in range(len(committed) + 1)),
             *(f'REENACT {it.number} {end}' for it in committed for end in (*(f'AFTER {k + 1}' for k in range(it.statements)), 'COMMIT'))]
 
 
-def refused_states(transactions):
+def refused_states(transactions: Sequence[Transaction]) -> Iterator[str]:
     """States that are refused: of no version, of no transaction, of no statement, and of a transaction that did not commit."""
     yield f'AS OF {sum(it.committed for it in transactions) + 1}'
     yield f'REENACT {len(transactions) + 1} COMMIT'
@@ -69,7 +74,7 @@ def refused_states(transactions):
         yield f'REENACT {others[-1].number} COMMIT'
 
 
-def questions_of(history, tables, transactions):
+def questions_of(history: History, tables: Sequence[str], transactions: Sequence[Transaction]) -> list[str]:
     """The questions of a history: those by hand and its states with each whole table, or random ones. Every second has EXPLAIN."""
     states = states_of(transactions)
     if history.made:
@@ -81,7 +86,7 @@ def questions_of(history, tables, transactions):
     return history.questions + [f"{'EXPLAIN ' * (at % 2)}{question}" for at, question in enumerate(asked)]
 
 
-def random_questions(made, states):
+def random_questions(made: Script, states: Sequence[str]) -> Iterator[str]:
     """Random queries over random states. Those inside of a transaction are asked more often than versions."""
     inside = [state for state in states if state.startswith('REENACT')]
     for _ in range(QUESTIONS):

@@ -1,4 +1,7 @@
 """What `gprom sql` prints, taken apart at its comments: tables, and the text of each question. Nothing of it is changed."""
+
+from __future__ import annotations
+
 import re
 from dataclasses import dataclass
 
@@ -20,12 +23,12 @@ class Printed:
     tables: str
     parts: list[Part]
 
-    def table_names(self):
+    def table_names(self) -> list[str]:
         """The tables of the dump, in order of creation."""
         return [found[1] for line in self.tables.split('\n') if (found := TABLE.match(line))]
 
 
-def read(text):
+def read(text: str) -> Printed:
     """The parts of a text. Lines end at line feeds alone: a text in it may have other characters at which `splitlines` cuts."""
     printed = Printed('', [])
     for line in text.split('\n')[:-1]:

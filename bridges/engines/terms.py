@@ -1,5 +1,15 @@
 """Random terms, conditions and queries of gprom's language, all well typed."""
+
+from __future__ import annotations
+
+import random
+from collections.abc import Sequence
 from dataclasses import dataclass
+
+from gprom.answers import Cell, cell_text
+
+# A column, or another term that can stand in a scope: its text and its type.
+Typed = tuple[str, str]
 
 INT, TEXT = 'INT', 'TEXT'
 COMPARISONS = ('=', '<>', '<', '<=', '>', '>=')
@@ -14,52 +24,47 @@ ALIASES = 'xyzw'
 class Table:
     """A table: its name, and its columns as names and types."""
     name: str
-    columns: list[tuple[str, str]]
+    columns: list[Typed]
 
-    def types(self):
+    def types(self) -> list[str]:
         """The types of its columns."""
-        return [type for _, type in self.columns]
-
-
-def literal(value):
-    """A cell as it is written in a tuple."""
-    return 'NULL' if value is None else str(value) if isinstance(value, int) else "'" + value.replace("'", "''") + "'"
+        return [kind for _, kind in self.columns]
 
 
 class Terms:
     """Writes terms over a scope: the columns of the FROM items, as texts with their types."""
 
-    def __init__(self, random):
-        self.random = random
+    def __init__(self, chance: random.Random):
+        self.random = chance
 
-    def cell(self, type):
+    def cell(self, kind: str) -> Cell:
         """A random cell. Numbers are small, so that no result passes 64 bits, where engines differ."""
         if self.random.random() < NULLS:
             return None
-        return self.random.randint(-20, 60) if type == INT else self.random.choice(TEXTS)
+        return self.random.randint(-20, 60) if kind == INT else self.random.choice(TEXTS)
 
-    def leaf(self, type, scope):
+    def leaf(self, kind: str, scope: Sequence[Typed]) -> str:
         """A column, or a literal where the scope has none of the type."""
-        columns = [text for text, its in scope if its == type]
+        columns = [text for text, its in scope if its == kind]
         if columns and self.random.random() < 0.75:
             return self.random.choice(columns)
-        value = self.cell(type)
-        return f'({value})' if isinstance(value, int) and value < 0 else literal(value)
+        value = self.cell(kind)
+        return f'({value})' if isinstance(value, int) and value < 0 else cell_text(value)
 
-    def term(self, type, scope, depth=2):
+    def term(self, kind: str, scope: Sequence[Typed], depth: int = 2) -> str:
         """A term of this type. `NULL` is one of either."""
         if self.random.random() < NULLS:
             return 'NULL'
         if depth == 0 or self.random.random() < 0.45:
-            return self.leaf(type, scope)
-        if type == TEXT or self.random.random() < 0.35:
-            then, other = self.term(type, scope, depth - 1), self.term(type, scope, depth - 1)
+            return self.leaf(kind, scope)
+        if kind == TEXT or self.random.random() < 0.35:
+            then, other = self.term(kind, scope, depth - 1), self.term(kind, scope, depth - 1)
             return f'CASE WHEN {self.condition(scope, depth - 1)} THEN {then} ELSE {other} END'
         operand = self.term(INT, scope, depth - 1)
         form = self.random.choice(('({} + {})', '({} - {})', '({} * {})', '(-{})'))
         return form.format(f'({operand})', self.random.randint(0, 3) if '*' in form else self.term(INT, scope, depth - 1))
 
-    def condition(self, scope, depth=2):
+    def condition(self, scope: Sequence[Typed], depth: int = 2) -> str:
         """A condition of three values."""
         form = self.random.random()
         if depth > 0 and form < 0.25:
@@ -68,35 +73,35 @@ class Terms:
             return f'NOT ({self.condition(scope, depth - 1)})'
         if depth > 0 and form < 0.4:
             return f"({self.condition(scope, depth - 1)}) IS {self.random.choice(('', 'NOT '))}TRUE"
-        type = self.random.choice((INT, INT, TEXT))
+        kind = self.random.choice((INT, INT, TEXT))
         if form < 0.5:
-            return f"({self.term(type, scope, depth)}) IS {self.random.choice(('', 'NOT '))}NULL"
-        return f'{self.term(type, scope, depth)} {self.random.choice(COMPARISONS)} {self.term(type, scope, depth)}'
+            return f"({self.term(kind, scope, depth)}) IS {self.random.choice(('', 'NOT '))}NULL"
+        return f'{self.term(kind, scope, depth)} {self.random.choice(COMPARISONS)} {self.term(kind, scope, depth)}'
 
-    def likely(self, scope):
+    def likely(self, scope: Sequence[Typed]) -> str:
         """A condition that most rows fulfil."""
-        column, type = self.random.choice(scope)
-        return f'{column} > ({self.random.randint(-20, 5)})' if type == INT else f"({column} = '{self.random.choice(COMMON)}') IS NOT TRUE"
+        column, kind = self.random.choice(scope)
+        return f'{column} > ({self.random.randint(-20, 5)})' if kind == INT else f"({column} = '{self.random.choice(COMMON)}') IS NOT TRUE"
 
-    def where(self, scope, chance=0.7, also=()):
+    def where(self, scope: Sequence[Typed], chance: float = 0.7, also: Sequence[str] = ()) -> str:
         """A WHERE with these conditions, or none. Every second condition is one that leaves rows."""
         conditions = list(also)
         if self.random.random() < chance:
-            conditions.append(self.random.choice((self.condition, self.likely))(scope))
+            conditions.append(self.condition(scope) if self.random.choice((True, False)) else self.likely(scope))
         return f" WHERE {' AND '.join(conditions)}" if conditions else ''
 
-    def block(self, types, tables):
+    def block(self, types: Sequence[str], tables: Sequence[Table]) -> str:
         """A block of a query, whose columns have these types. Of two items two columns are equal: else the answers grow."""
         items = [self.random.choice(tables) for _ in range(self.random.choice((1, 1, 1, 2, 2, 3)))]
         if len(items) == 1 and items[0].types() == types and self.random.random() < 0.4:
             return f'SELECT * FROM {items[0].name}{self.where(items[0].columns)}'
-        named = [(f'{alias}.{column}', type) for alias, item in zip(ALIASES, items) for column, type in item.columns]
+        named = [(f'{alias}.{column}', kind) for alias, item in zip(ALIASES, items) for column, kind in item.columns]
         scope = items[0].columns if len(items) == 1 else named
-        lists = ', '.join(self.term(type, scope) for type in types)
+        lists = ', '.join(self.term(kind, scope) for kind in types)
         source = items[0].name if len(items) == 1 else ', '.join(f'{item.name} {alias}' for item, alias in zip(items, ALIASES))
         return f'SELECT {lists} FROM {source}{self.where(scope, also=self.joins(items))}'
 
-    def joins(self, items):
+    def joins(self, items: Sequence[Table]) -> list[str]:
         """An equality of each item with the one before, where both have a column of one type."""
         equal = []
         for at in range(1, len(items)):
@@ -105,7 +110,7 @@ class Terms:
             equal.append(f'{ALIASES[at - 1]}.{left} = {ALIASES[at]}.{right}')
         return equal
 
-    def query(self, tables, types=None):
+    def query(self, tables: Sequence[Table], types: Sequence[str] | None = None) -> str:
         """A query of up to three blocks, with columns of these types or of random ones."""
         types = types or [self.random.choice((INT, TEXT)) for _ in range(self.random.randint(1, 4))]
         return ' UNION ALL '.join(self.block(types, tables) for _ in range(self.random.choice((1, 1, 2, 3))))

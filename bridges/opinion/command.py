@@ -138,13 +138,13 @@ def find_faults(program: Program, seed: int, histories: int) -> int:
             program.run(script, path)
             dump = Dump.open(path)
             right = of_dump(program, dump)
-            for name in [name for name, by in left.items() if not by]:
-                with made(name):
-                    left[name] = "" if of_dump(program, dump) == right else what
+            for fault in [fault for fault, by in left.items() if not by]:
+                with made(fault):
+                    left[fault] = "" if of_dump(program, dump) == right else what
             if all(left.values()):
                 break
-    for name, by in left.items():
-        print(f"{name}: found by {by}" if by else f"FAILED {name}: not found")
+    for fault, by in left.items():
+        print(f"{fault}: found by {by}" if by else f"FAILED {fault}: not found")
     print(f"{sum(map(bool, left.values()))} passed, {sum(not by for by in left.values())} failed")
     return int(not all(left.values()))
 

@@ -9,7 +9,7 @@ import re
 from collections.abc import Sequence
 from pathlib import Path
 
-from gpdesk.desk import Desk
+from desk.gpdesk.desk import Desk
 from gprom.client import Client, open_source
 from gprom.program import Answer, Job, Program
 

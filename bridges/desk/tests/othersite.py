@@ -35,7 +35,7 @@ class OtherSite:
                 self.end_headers()
                 self.wfile.write(page)
 
-            def log_message(self, format: str, *args: object) -> None:
+            def log_message(self, *_: object) -> None:
                 pass
 
         self._server = ThreadingHTTPServer(("127.0.0.1", 0), Handler)

@@ -13,7 +13,7 @@ from pathlib import Path
 
 from browser import MOST_WAITING
 
-DESK = Path(__file__).resolve().parent.parent / "desk"
+DESK = "desk.gpdesk"
 # Where is the cursor? A terminal answers.
 ASKED, PLACE = "\x1b[6n", b"\x1b[1;1R"
 
@@ -31,7 +31,7 @@ class Terminal:
         self._child, self._terminal = pty.fork()
         if self._child == 0:
             os.environ.update(TERM="xterm", XDG_CACHE_HOME=self._home.name, COLUMNS="120")
-            os.execv(self._python, [self._python, str(DESK), str(self._file)])
+            os.execv(self._python, [self._python, "-P", "-B", "-m", DESK, str(self._file)])
         return self
 
     def __exit__(self, failed: type[BaseException] | None, *_: object) -> None:

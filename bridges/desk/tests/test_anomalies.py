@@ -3,15 +3,16 @@
 from __future__ import annotations
 
 import unittest
+from collections.abc import Sequence
 from pathlib import Path
 
-from gpdesk.desk import Desk
-from gpdesk.reproduce import ReproduceError, lines_of_log, reproduce
-from gpdesk.verdicts import anomaly_verdicts, verdicts
+from desk.gpdesk.desk import Desk
+from desk.gpdesk.reproduce import ReproduceError, lines_of_log, reproduce
+from desk.gpdesk.verdicts import anomaly_verdicts, verdicts
 from gprom.anomalies import by_name, full_name, sentence
 from gprom.answers import Anomaly, anomalies
 from gprom.client import Client, open_source
-from gprom.program import Answer
+from gprom.program import Answer, Job
 
 from .newer import Newer, newer
 from .support import program, written
@@ -130,8 +131,8 @@ class Shown(unittest.TestCase):
         """Of more than 50,000 lines there is the shortest cycle, and why not all."""
 
         class Refusing(Newer):
-            def ask(self, dump: Path, questions: object, *more: object, **named: object) -> list[Answer]:  # type: ignore[override]
-                found = super().ask(dump, questions, *more, **named)  # type: ignore[arg-type]
+            def ask(self, dump: Path, questions: Sequence[str], job: Job | None = None, most: Sequence[int | None] = ()) -> list[Answer]:
+                found = super().ask(dump, questions, job, most)
                 return [Answer(it.question, "E27 more than 50000 rows") if it.question == "ANOMALIES" else it for it in found]
 
         source = newer().client.source

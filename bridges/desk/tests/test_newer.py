@@ -7,13 +7,13 @@ import io
 import unittest
 from unittest import mock
 
-from gpdesk import cli
-from gpdesk.audit import audit
-from gpdesk.completion import candidates
-from gpdesk.desk import Desk
-from gpdesk.reproduce import lines_of_log, reproduce
-from gpdesk.verdicts import verdicts
-from gpdesk.web.api import Api
+from desk.gpdesk import cli
+from desk.gpdesk.audit import audit
+from desk.gpdesk.completion import candidates
+from desk.gpdesk.desk import Desk
+from desk.gpdesk.reproduce import lines_of_log, reproduce
+from desk.gpdesk.verdicts import verdicts
+from desk.gpdesk.web.api import Api
 from gprom import answers as a
 from gprom.client import Client, open_source
 from gprom.program import Answer, Job

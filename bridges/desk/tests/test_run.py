@@ -10,7 +10,7 @@ import tempfile
 import unittest
 from pathlib import Path
 
-from gpdesk.cli import main
+from desk.gpdesk.cli import main
 
 from .support import script
 

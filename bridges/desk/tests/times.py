@@ -8,7 +8,7 @@ import time
 from collections.abc import Iterator
 
 from browser import Browser, BrowserError, installed
-from gpdesk.desk import Desk
+from desk.gpdesk.desk import Desk
 from gprom.client import Client, Source, open_source
 
 from .support import Serving, overlapping, program, written

@@ -3,6 +3,7 @@
 from __future__ import annotations
 
 import json
+import math
 import re
 import time
 from collections.abc import Iterator
@@ -210,7 +211,7 @@ def _opening(browser: Browser, page: Path) -> float:
         fresh.open(page, "#v19")
         fresh.settle()
         metrics = fresh.call("Performance.getMetrics")["metrics"]
-        return next(it["value"] for it in metrics if it["name"] == "TaskDuration")
+        return float(next(it["value"] for it in metrics if it["name"] == "TaskDuration"))
 
 
 def colours_follow_the_reader(browser: Browser, pages: Pages) -> Faults:
@@ -233,9 +234,12 @@ def colours_follow_the_reader(browser: Browser, pages: Pages) -> Faults:
 
 def _luminance(colour: str) -> float:
     digits = colour[1:] if len(colour) == 7 else "".join(digit * 2 for digit in colour[1:])
-    parts = [int(digits[at : at + 2], 16) / 255 for at in (0, 2, 4)]
-    red, green, blue = (part / 12.92 if part <= 0.04045 else ((part + 0.055) / 1.055) ** 2.4 for part in parts)
+    red, green, blue = (_linear(int(digits[at : at + 2], 16) / 255) for at in (0, 2, 4))
     return 0.2126 * red + 0.7152 * green + 0.0722 * blue
+
+
+def _linear(part: float) -> float:
+    return part / 12.92 if part <= 0.04045 else math.pow((part + 0.055) / 1.055, 2.4)
 
 
 def _contrast(one: float, other: float) -> float:

@@ -5,7 +5,6 @@ from __future__ import annotations
 import resource
 import shlex
 import subprocess
-import sys
 from collections.abc import Callable
 from pathlib import Path
 
@@ -17,15 +16,14 @@ EXAMPLES = HERE.parents[2] / "examples"
 
 
 class Pages:
-    def __init__(self, program: list[str], folder: Path):
+    def __init__(self, program: Program, folder: Path):
         self.program, self.folder = program, folder
-        self._calls = Program(program)
         # The processor time in seconds that each page took, that of the program included.
         self.seconds: dict[str, float] = {}
 
     def knows_anomalies(self) -> bool:
         """Whether the program has ANOMALIES."""
-        return self._calls.knows("ANOMALIES")
+        return self.program.knows("ANOMALIES")
 
     def examples(self) -> list[str]:
         return sorted(path.stem for path in EXAMPLES.glob("*.script"))
@@ -43,8 +41,7 @@ class Pages:
             if text is not None:
                 script = self.folder / f"{name}.script"
                 script.write_text(text, encoding="utf-8")
-            done = subprocess.run([*self.program, "run", str(script), str(dump)], stdout=subprocess.PIPE, text=True)
-            assert done.returncode < 2, done.stdout
+            self.program.run(script, dump)
         return dump
 
     def forged(self, name: str, change: Callable[[str], str]) -> Path:
@@ -66,7 +63,7 @@ class Pages:
         return page
 
     def make(self, dump: Path, *options: str) -> subprocess.CompletedProcess[bytes]:
-        return subprocess.run([sys.executable, str(PAGE), "--gprom", shlex.join(self.program), *options, str(dump)], capture_output=True)
+        return subprocess.run([str(PAGE), "--gprom", shlex.join(self.program.words), *options, str(dump)], capture_output=True)
 
 
 def _spent() -> float:

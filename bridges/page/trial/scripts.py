@@ -39,5 +39,5 @@ def _create() -> list[str]:
 
 def _insert(first: int, last: int) -> Iterator[str]:
     for start in range(first, last + 1, 100):
-        rows = ", ".join(f"({id}, 'Owner {id}', 100)" for id in range(start, min(start + 99, last) + 1))
+        rows = ", ".join(f"({number}, 'Owner {number}', 100)" for number in range(start, min(start + 99, last) + 1))
         yield f"s1: INSERT INTO acct VALUES {rows}"

@@ -1,0 +1,1 @@
+"""What `gprom sql` prints, in SQLite."""
