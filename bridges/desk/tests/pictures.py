@@ -10,8 +10,10 @@ from browser import Browser, BrowserError, installed
 from .support import Serving, desk, program
 
 WHATIF = "#v=8&t=2.2&w=%5B%5B%22replace%22%2C2%2C2%2C%22UPDATE%20item%20SET%20qty%20%3D%20qty%20-%202%20WHERE%20id%20%3D%201%22%5D%5D"
+INCIDENT = "#v=7&t=3.2&w=%5B%5B%22replace%22%2C3%2C2%2C%22UPDATE%20item%20SET%20qty%20%3D%20qty%20%2B%2010%20WHERE%20id%20%3D%201%22%5D%5D"
 # The name of a picture, the history, what is chosen, and a text that is there when all is drawn.
 PICTURES = (
+    ("desk", "shop", INCIDENT, "would be otherwise"),
     ("whatif", "stock", WHATIF, "would be otherwise"),
     ("row", "stock", "#v=8&row=item/1.1.1", "i1.1.1*u2.2*u3.1"),
     ("question", "stock", "#t=5&q=sum(amount)%20by%20item%20of%20SELECT%20*%20FROM%20sale", "its entries"),
@@ -38,7 +40,7 @@ def take_pictures(folder: Path) -> None:
                         browser.open(server.address + chosen)
                         _wait(browser, text)
                         browser.picture(folder / f"{name}-{width}{'-dark' if dark else ''}.png")
-                if name == "whatif":
+                if name == "desk":
                     _upper(browser, server.address + chosen, text, folder / "desk.png")
                 if name in ("whatif", "audit"):
                     _print(browser, folder / f"{name}-print.png")
