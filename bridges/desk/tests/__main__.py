@@ -14,6 +14,7 @@ import sys
 import unittest
 from pathlib import Path
 
+from browser import SLOW
 from gprom.program import ProgramError, find_program
 
 HERE = Path(__file__).resolve().parent
@@ -27,7 +28,10 @@ def main() -> int:
     parser.add_argument("--gprom", metavar="PROGRAM", help="the program (GPROM, that of the checkout, else of the path)")
     parser.add_argument("--pictures", type=Path, metavar="FOLDER", help="makes pictures of the page there, to be looked at, and tests nothing")
     parser.add_argument("--times", action="store_true", help="measures how soon the page opens and a what-if is there, and tests nothing")
+    parser.add_argument("--slow", type=float, metavar="N", help="slows the browser down N times, as a busy machine does")
     given = parser.parse_args()
+    if given.slow:
+        os.environ[SLOW] = str(given.slow)
     try:
         program, *words = find_program(given.gprom)
     except ProgramError as error:

@@ -3,11 +3,12 @@
 from __future__ import annotations
 
 import argparse
+import os
 import sys
 import tempfile
 from pathlib import Path
 
-from browser import Browser, BrowserError, installed
+from browser import SLOW, Browser, BrowserError, installed
 from gprom.program import Program, ProgramError, find_program
 
 from .checks import CHECKS
@@ -19,7 +20,10 @@ def main() -> int:
     parser = argparse.ArgumentParser(prog="test", description="Tests the pages of all examples in headless Chromium.")
     parser.add_argument("--gprom", metavar="PROGRAM", help="the program, or the words that call it (GPROM, that of the checkout, else of the path)")
     parser.add_argument("--pictures", type=Path, metavar="FOLDER", help="puts pictures of some pages there, for the eye")
+    parser.add_argument("--slow", type=float, metavar="N", help="slows the browser down N times, as a busy machine does")
     given = parser.parse_args()
+    if given.slow:
+        os.environ[SLOW] = str(given.slow)
     chromium = installed()
     if not chromium:
         print("bridges/page/test: not run: Chromium is not installed")

@@ -166,6 +166,28 @@ def lanes_are_lists(browser: Browser, pages: Pages) -> Faults:
     yield "a screen reader is given lists and names", f"{missing[0]} is not there" if missing else ""
 
 
+def people_are_there(browser: Browser, pages: Pages) -> Faults:
+    """Who it was, by the file beside the dump or a named one. Its texts stay texts, too."""
+    dump = pages.copy("stock", "known")
+    rows = ["transaction\tuser\tapplication\tclient\tbegin\tend\tline", "3\tmia\t<b>till</b>\t[local]\t2026-12-01 10:00:00.123000\t2026-12-01 10:00:01.456789\t7"]
+    beside = dump.with_suffix(".people")
+    beside.write_text("".join(f"{row}\n" for row in rows), encoding="utf-8")
+    browser.open(pages.page(dump), "#t3")
+    words = "mia with <b>till</b>; from [local]; 2026-12-01 10:00:00.123 to 10:00:01.456789 UTC; line 7 of the server's log"
+    fault = lacks(browser, ("#t3 .who", f"{words}."), (".tx[data-t='3'] title", words), ("#names .user", "mia")) or noise(browser)
+    others = browser.ask("document.querySelectorAll('.who').length")
+    yield "who it was", fault or ("" if others == 1 else f"{others} transactions have a user")
+    named = beside.rename(beside.with_name("elsewhere"))
+    browser.open(pages.page(dump, "--people", str(named)), "#t3")
+    yield "who it was, by a file that is named", lacks(browser, ("#t3 .who", words))
+    browser.open(pages.page(pages.dump("stock")))
+    wide = browser.ask("document.getElementById('names').viewBox.baseVal.width")
+    yield "a page without users is as it was", "" if wide == 58 and not browser.ask("document.querySelectorAll('.who, .user').length") else f"names of {wide}"
+    named.write_text("transaction\n3\n", encoding="utf-8")
+    done = pages.make(dump, "--people", str(named))
+    yield "a file that is no such one", "" if done.returncode == 2 and b"is no file of convert" in done.stderr and not done.stdout else f"{done.returncode} {done.stderr!r}"
+
+
 def forged_dumps_are_called_so(browser: Browser, pages: Pages) -> Faults:
     forged = pages.forged("write-skew", lambda text: text.replace("1, -30\n", "1, -31\n"))
     browser.open(pages.page(forged), "#t3")
@@ -267,6 +289,7 @@ CHECKS = (
     keys_choose,
     all_is_there_without_script,
     lanes_are_lists,
+    people_are_there,
     forged_dumps_are_called_so,
     what_is_cut_says_so,
     large_pages_open_soon,

@@ -4,6 +4,7 @@ from __future__ import annotations
 
 import resource
 import shlex
+import shutil
 import subprocess
 from collections.abc import Callable
 from pathlib import Path
@@ -48,6 +49,12 @@ class Pages:
         """A dump that somebody changed."""
         dump = self.folder / f"forged-{name}.dump"
         dump.write_text(change(self.dump(name).read_text(encoding="utf-8")), encoding="utf-8")
+        return dump
+
+    def copy(self, name: str, other: str) -> Path:
+        """The dump of a script under another name."""
+        dump = self.folder / f"{other}.dump"
+        shutil.copy(self.dump(name), dump)
         return dump
 
     def page(self, dump: Path, *options: str) -> Path:

@@ -6,6 +6,7 @@ import argparse
 import sys
 from pathlib import Path
 
+from gprom.people import PeopleError, people_beside, read_people
 from gprom.program import Program, ProgramError, find_program
 
 from .document import write_page
@@ -17,6 +18,7 @@ def arguments() -> argparse.Namespace:
     parser = argparse.ArgumentParser(prog="page", description="Writes a page about a dump to the standard output.")
     parser.add_argument("dump", metavar="DUMP")
     parser.add_argument("--gprom", metavar="PROGRAM", help="the program, or the words that call it (GPROM, that of the checkout, else of the path)")
+    parser.add_argument("--people", type=Path, metavar="FILE", help="who ran each transaction, as convert writes it (the file DUMP.people beside the dump)")
     parser.add_argument("--title", help="the title of the page (the name of the dump)")
     parser.add_argument("--transactions", type=int, default=limits.transactions, metavar="N", help="shows at most N transactions (%(default)s)")
     parser.add_argument("--rows", type=int, default=limits.rows, metavar="N", help="shows at most N row versions (%(default)s)")
@@ -28,10 +30,14 @@ def main() -> int:
     given = arguments()
     limits = Limits(given.transactions, given.rows, given.provenance)
     try:
-        history = History(Program(find_program(given.gprom)), Path(given.dump), limits)
+        people = read_people([], None, None, given.people or people_beside(Path(given.dump)))
+        history = History(Program(find_program(given.gprom)), Path(given.dump), limits, people)
     except ProgramError as error:
         print(error, file=sys.stderr)
         return error.status
+    except (PeopleError, OSError) as error:
+        print(f"page: {error}", file=sys.stderr)
+        return 2
     sys.stdout.buffer.write(write_page(history, given.title or Path(given.dump).name, limits).encode())
     return 0
 

@@ -3,6 +3,7 @@
 from __future__ import annotations
 
 from gprom import answers as a
+from gprom.people import Person
 from gprom.program import Answer
 
 from .history import Cycle, History, Statement, Transaction
@@ -20,7 +21,7 @@ def details(history: History, links: Links) -> str:
     first = _first(history)
     statements = sum(len(it.statements) for it in history.shown)
     most = max(LEAST_EACH, min(MOST_EACH, MOST_ROWS // max(1, statements)))
-    return "".join(_transaction(it, it is first, most, history.cycles, links) for it in history.shown)
+    return "".join(_transaction(it, it is first, most, history, links) for it in history.shown)
 
 
 def _first(history: History) -> Transaction | None:
@@ -30,7 +31,7 @@ def _first(history: History) -> Transaction | None:
     return in_order[0] if in_order else None
 
 
-def _transaction(it: Transaction, chosen: bool, most: int, cycles: list[Cycle], links: Links) -> str:
+def _transaction(it: Transaction, chosen: bool, most: int, history: History, links: Links) -> str:
     listed, number = it.listed, it.number
     asked = [it.log, *(answer for one in it.statements for answer in (one.saw, one.changes) if answer), it.conflicts]
     statements = "".join(_statement(one, most) for one in it.statements)
@@ -39,11 +40,15 @@ def _transaction(it: Transaction, chosen: bool, most: int, cycles: list[Cycle], 
         f'data-reads="{" ".join(map(str, it.reads()))}">'
         f'<h3 id="t{number}-name"><span class="chip {it.kind}">{sign(it.kind, it.version, listed.became)}</span> Transaction {number} '
         f"<small>session {listed.session}, {listed.level}, begun at version {listed.begin}, {escape(listed.became)}</small></h3>"
-        f"{_met(it, links)}{_in_cycles(number, cycles, links)}"
+        f"{_who(history.person(number))}{_met(it, links)}{_in_cycles(number, history.cycles, links)}"
         + (f'<ol class="statements">{statements}</ol>' if statements else '<p class="quiet">No statement.</p>')
         + fold("the questions behind this", asked, 40)
         + "</section>"
     )
+
+
+def _who(person: Person | None) -> str:
+    return f'<p class="quiet who">{escape(person.whole)}.</p>' if person else ""
 
 
 def _statement(it: Statement, most: int) -> str:

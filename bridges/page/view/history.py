@@ -11,6 +11,7 @@ from gprom import answers as a
 from gprom.anomalies import full_name
 from gprom.history import Dump
 from gprom.history import History as Log
+from gprom.people import People, Person
 from gprom.program import Answer, Program
 
 # The rows that are kept of an answer of SAW or CHANGES. The page shows fewer.
@@ -170,8 +171,10 @@ def came_from(version: int, table: str) -> str:
 class History:
     """The answers about a dump."""
 
-    def __init__(self, program: Program, dump: Path, limits: Limits):
+    def __init__(self, program: Program, dump: Path, limits: Limits, people: People | None = None):
         log = _log_of(dump)
+        self.people = people or People()
+        self.people.name_sessions(log)
         questions = Questions(log, limits.provenance, program.knows("ANOMALIES"))
         self._answers = questions.ask(program, dump)
         self.answers = list(self._answers.values())
@@ -199,6 +202,10 @@ class History:
     def _cycle(self) -> list[Cycle]:
         """That of SERIAL."""
         return [Cycle(tuple(a.lines_of(self.serial, a.edge)))] if self.serial.head.startswith("cycle ") else []
+
+    def person(self, transaction: int) -> Person | None:
+        """Who ran a transaction, where it is known."""
+        return self.people.transactions.get(transaction)
 
     def idle(self) -> list[int]:
         """The committed transactions that wrote nothing, by the row versions of all tables."""

@@ -9,8 +9,8 @@ from .history import History, Statement, Transaction
 from .markup import count, escape, shortened, sign
 
 LEFT, TOP, BOX = 8, 44, 80
-# The names of the lanes are a picture of their own, which stays in place when the lanes are scrolled.
-NAMES = 58
+# The names of the lanes are a picture of their own, which stays in place when the lanes are scrolled. Those of users make it wider.
+NAMES, MOST_NAMES, LETTER = 58, 150, 7.2
 # The least width of the lanes, that of the page, so that a short history fills it.
 LEAST_WIDTH = 1052
 LEVELS = {"SNAPSHOT": "SI", "READ COMMITTED": "RC"}
@@ -28,6 +28,8 @@ class Timeline:
         # Arrows need room between the lanes.
         self.lane = 126 if history.cycles else 100
         self.sessions = sorted({it.listed.session for it in self.shown})
+        self.users = {session: history.people.sessions.get(session, "") for session in self.sessions}
+        self.names = math.ceil(min(MOST_NAMES, max(NAMES, 24 + LETTER * max(map(len, self.users.values()), default=0))))
         self.boxes = {it.number: it for it in self.shown}
         self.marked = set(history.cycles[0].transactions) if history.cycles else set[int]()
         lines = sorted({line for it in self.shown for line in _lines(it)})
@@ -94,13 +96,20 @@ class Timeline:
 
     def _names(self) -> str:
         words = "".join(
-            f'<text class="session" x="12" y="{_at(TOP + self.lane * (at + 0.5) + 5)}">s{session}</text>' for at, session in enumerate(self.sessions)
+            f'<text class="session" x="12" y="{_at(TOP + self.lane * (at + 0.5) + 5)}">s{session}</text>{self._user(session, TOP + self.lane * (at + 0.5) + 22)}'
+            for at, session in enumerate(self.sessions)
         )
         return (
-            f'<svg id="names" style="--wide: {NAMES}" width="{NAMES}" height="{self.height}" viewBox="0 0 {NAMES} {self.height}" aria-hidden="true">'
-            f'{self._lanes(0, NAMES)}'
+            f'<svg id="names" style="--wide: {self.names}" width="{self.names}" height="{self.height}" viewBox="0 0 {self.names} {self.height}" aria-hidden="true">'
+            f'{self._lanes(0, self.names)}'
             f'{words}<text class="axis" x="12" y="{TOP - 20}">version</text><text class="axis" x="12" y="{self.bottom + 18}">line</text></svg>'
         )
+
+    def _user(self, session: int, y: float) -> str:
+        """The one user of a session, as far as there is room."""
+        user, most = self.users[session], int((self.names - 24) / LETTER)
+        short = user if len(user) <= most else user[: most - 1] + "…"
+        return f'<text class="user" x="12" y="{_at(y)}"><title>{escape(user)}</title>{escape(short)}</text>' if user else ""
 
     def _gaps(self) -> str:
         return "".join(
@@ -137,7 +146,8 @@ class Timeline:
 
     def _session(self, session: int) -> str:
         boxes = "".join(f'<g role="listitem">{self._box(it)}</g>' for it in self.shown if it.listed.session == session)
-        return f'<g role="list" class="session" aria-label="session {session}">{boxes}</g>'
+        user = f", {escape(self.users[session])}" if self.users[session] else ""
+        return f'<g role="list" class="session" aria-label="session {session}{user}">{boxes}</g>'
 
     def _box(self, it: Transaction) -> str:
         """What is written in a box, and the link that it is."""
@@ -146,9 +156,11 @@ class Timeline:
         fate = sign(it.kind, it.version, it.listed.became)
         level = it.listed.level if width > 122 else LEVELS[it.listed.level]
         short = fate if width > 34 + 7.4 * len(fate) else fate.split()[0]
+        person = self.history.person(it.number)
+        who = f"; {escape(person.whole)}" if person else ""
         label = f"transaction {it.number}, {it.listed.level}, begun at version {it.listed.begin}, {count(len(it.statements), 'statement')}, {it.listed.became}"
         return (
-            f'<a href="#t{it.number}" class="tx {it.kind}" data-t="{it.number}" aria-label="{label}"><title>{label}</title>'
+            f'<a href="#t{it.number}" class="tx {it.kind}" data-t="{it.number}" aria-label="{label}"><title>{label}{who}</title>'
             f'<rect class="hit" x="{_at(left)}" y="{_at(top)}" width="{_at(width)}" height="{BOX}" rx="5"/>'
             f'<text class="name" x="{_at(left + 7)}" y="{_at(top + 17)}">{it.number} <tspan class="fate">{short}</tspan></text>'
             f'<text class="level" x="{_at(left + 7)}" y="{_at(top + 31)}">{level}</text>'

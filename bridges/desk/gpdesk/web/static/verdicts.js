@@ -1,6 +1,6 @@
 // The verdicts at the top. Anomalies are a list by name, each of which can be chosen; the least script with one is behind a button.
 import { $, h, put, plural } from "./dom.js";
-import { call } from "./api.js";
+import { call, forget } from "./api.js";
 import { choose, state } from "./state.js";
 import { at, copied, failed, sentence } from "./results.js";
 
@@ -43,6 +43,9 @@ export class Anomalies {
   choose(it) { choose({ a: key(it), t: it.transactions[0], k: null, row: null }); }
 
   draw() {
+    // The least script of the one that was chosen before is not waited for. Who chose by keys stays on the button.
+    forget("reproduce");
+    const held = this.place.contains(document.activeElement) && document.activeElement.closest("[data-a]")?.dataset.a;
     const chosen = this.chosen;
     const listed = this.names.flatMap((name) => this.all.filter((it) => it.title === name).filter((it, place) => this.whole || place < EACH || it === chosen));
     const left = this.all.length - listed.length;
@@ -53,6 +56,7 @@ export class Anomalies {
         it === chosen && [steps(it.edges), smaller("ANOMALIES", it.title.toLowerCase())]))),
       left > 0 && h("p", {}, h("button", { type: "button", class: "all", onclick: () => { this.whole = true; this.draw(); } }, plural(left, "more anomaly").replace("anomalys", "anomalies"))),
       this.more && h("p", { class: "soft" }, this.more.title + ". ", this.more.sentences.map(sentence))));
+    if (held) this.place.querySelector("[data-a='" + held + "'] .name")?.focus({ preventScroll: true });
   }
 }
 
