@@ -174,7 +174,9 @@ def people_are_there(browser: Browser, pages: Pages) -> Faults:
     beside.write_text("".join(f"{row}\n" for row in rows), encoding="utf-8")
     browser.open(pages.page(dump), "#t3")
     words = "mia with <b>till</b>; from [local]; 2026-12-01 10:00:00.123 to 10:00:01.456789 UTC; line 7 of the server's log"
-    fault = lacks(browser, ("#t3 .who", f"{words}."), (".tx[data-t='3'] title", words), ("#names .user", "mia")) or noise(browser)
+    fault = lacks(browser, ("#t3 .who", f"{words}."), ("#names .user", "mia")) or noise(browser)
+    title = browser.ask("document.querySelector(\".tx[data-t='3'] title\").textContent")
+    yield "who it was, in the timeline", "" if title.endswith(f"; {words}") else title
     others = browser.ask("document.querySelectorAll('.who').length")
     yield "who it was", fault or ("" if others == 1 else f"{others} transactions have a user")
     named = beside.rename(beside.with_name("elsewhere"))
