@@ -13,6 +13,8 @@ def in_order(entries: Iterable[Entry], snapshots: Snapshots, own: int) -> Iterat
     known = {entry.fields['n']: entry for entry in listed}
     top: list[Entry] = []
     for entry in listed:
+        entry.children.clear()
+    for entry in listed:
         parent = known.get(entry.fields.get('u'))
         (parent.children if parent else top).append(entry)
     for entry in top:

@@ -8,7 +8,7 @@ statements, each of which commits once, but for a CALL or a DO.
 All of this is asked of the commits together: `Owners` gives them transactions in the cheapest way, where a cost is a sign that something is
 wrong. If the cheapest ways differ in who made a commit, nothing tells, and the transactions that may have made it are in doubt.
 """
-from collections import defaultdict
+from collections import defaultdict, deque
 from dataclasses import dataclass, replace
 from itertools import accumulate
 
@@ -60,10 +60,13 @@ class Queue:
 
 
 class Owners:
-    """`find` gives transactions their commits. Those with an xid have them before."""
+    """`find` gives transactions their commits. Those with an xid have them before.
 
-    def __init__(self, tables, start, transactions, commits):
-        self.tables, self.transactions, self.commits = tables, transactions, commits
+    All commits between the times `since` and `until` are known. A statement that ran across one of them may have committed beside them.
+    """
+
+    def __init__(self, tables, start, transactions, commits, since=float('-inf'), until=float('inf')):
+        self.tables, self.transactions, self.commits, self.since, self.until = tables, transactions, commits, since, until
         self.versions, self.times = Versions(tables, start), []
         self.known = {t.commit: t for t in transactions if t.commit is not None}
         self.ways = {}                                # commit -> [(transaction, cost)]
@@ -153,8 +156,10 @@ class Owners:
         return not mine or not any(fits(old, new) for _, old, new in mine)
 
     def surely_writes(self, transaction):
-        """Whether a transaction without a commit wrote rows, whichever version it read."""
-        for step in transaction.steps if transaction.commit is None else ():
+        """Whether a transaction without a commit made one of the commits that are known: it wrote rows, whichever version it read."""
+        if transaction.commit is not None or transaction.started - HALF < self.since or transaction.end + HALF > self.until:
+            return False
+        for step in transaction.steps:
             statement = step.statement
             if not step.writes or statement is None or statement.deferred or self.tables[statement.table].rewrites:
                 continue
@@ -224,14 +229,16 @@ class Owners:
 
     def choose(self, layers):
         """Gives the commits their transactions, and says of which there is a doubt."""
-        chosen, state = defaultdict(list), min(layers[-1].values(), key=State.worth)
+        chosen, owners, state = defaultdict(list), {}, min(layers[-1].values(), key=State.worth)
         best, at = state.cost, len(self.commits)
         while state.before is not None:
             at -= 1
             if state.owner is not None:
                 chosen[id(state.owner)].insert(0, at)
+                owners[at] = state.owner
             state = state.before
         self.note_doubts(layers, best)
+        self.note_missing(owners)
         for transaction in list(self.transactions):
             if id(transaction) in chosen:
                 self.give(transaction, chosen[id(transaction)])
@@ -252,6 +259,32 @@ class Owners:
                 lines = sorted(owner.line for owner in owners.values())
                 for owner in owners.values():
                     owner.doubt = owner.doubt or f'log lines {", ".join(map(str, lines))}: which of them committed xid {self.commits[at].xid} is not known'
+
+    def note_missing(self, owners):
+        """Notes the transactions that may have made another commit than their own, given by `owners`: one that is nobody's, since the log lacks a record.
+
+        Then their own commit is nobody's, which another transaction may have made in its turn.
+        """
+        mine = {id(owner): at for at, owner in owners.items() if at in self.ways}
+        free = deque((at, 0) for at in self.ways if at not in owners)
+        while free:
+            at, more = free.popleft()
+            for owner, cost in self.ways[at]:
+                if (own := mine.get(id(owner))) is None or not self.may_move(owners, own, at):
+                    continue
+                rest = more + cost - dict((id(one), price) for one, price in self.ways[own])[id(owner)]
+                if rest <= 0:
+                    owner.doubt = owner.doubt or (f'log line {owner.line}: whether it committed xid {self.commits[own].xid} or {self.commits[at].xid} '
+                                                  'is not known, since a record is missing')
+                    del mine[id(owner)]
+                    free.append((own, rest))
+
+    @staticmethod
+    def may_move(owners, own, at):
+        """Whether no other commit of its session stands between the commit of a transaction and another one."""
+        owner = owners[own]
+        between = range(min(own, at), max(own, at) + 1)
+        return not owner.commits_itself and not any(owners[place].session == owner.session for place in between if place in owners and place != own)
 
     @staticmethod
     def told(transaction):

@@ -1,7 +1,8 @@
 """The file of gprom_capture as a stream of transactions, each given where it ends. One line of JSON is a statement or the end of a transaction."""
 import json
 from collections.abc import Iterator
-from dataclasses import dataclass, field
+from dataclasses import dataclass, field, replace
+from itertools import islice
 from typing import Any
 
 from . import UserError, files
@@ -41,6 +42,11 @@ class Found:
     end: dict[str, Any] | None = None
     end_line: int = 0
 
+    @property
+    def xid(self) -> str:
+        """The number of the transaction, or '0'. One that is open has it in its statements."""
+        return str(self.end['X'] if self.end else next((entry.fields['X'] for entry in reversed(self.entries) if entry.fields.get('X')), 0))
+
 
 def seconds(microseconds: int) -> float:
     return microseconds / 1e6 + EPOCH
@@ -69,7 +75,20 @@ def lines_of(file: str | files.Names, low: float) -> Iterator[tuple[int, str]]:
             yield number, line.decode('utf-8', 'replace')
 
 
-def at_line(file: str, lines: Iterator[bytes]) -> tuple[float, float]:
+def lines_from(file: str | files.Names, line: int) -> Iterator[bytes]:
+    """The lines of a file from one on. Those before it are counted and not read."""
+    offset, left = 0, line - 1
+    with files.opened(file) as opened:
+        while block := opened.read(BLOCK):
+            count = block.count(b'\n')
+            if count >= left:
+                break
+            offset, left = offset + len(block), left - count
+    with files.opened(file, offset) as opened:
+        yield from islice(opened, left, None)
+
+
+def at_line(file: str | files.Names, lines: Iterator[bytes]) -> tuple[float, float]:
     """Begin and end of what the first of these lines has, in seconds. The end of a subtransaction has no time, so the line behind it stands for it."""
     text = b''
     try:
@@ -85,14 +104,14 @@ def at_line(file: str, lines: Iterator[bytes]) -> tuple[float, float]:
 class Stream:
     """The transactions of one database in a file."""
 
-    def __init__(self, file: str, database: str | None) -> None:
+    def __init__(self, file: str | files.Names, database: str | None) -> None:
         self.file, self.database = file, database
         self.numbers: dict[str, dict[int, int]] = {}              # session -> number of a line of it -> its line in the file
         self.cut: list[tuple[int, str]] = []
-        self.databases: set[str] = set()
+        self.databases: dict[str, str] = {}                       # session -> its database, which the end of a transaction has
 
     def read(self, low: float = 0.0, high: float = float('inf')) -> Iterator[Found]:
-        """The transactions that end between these times, and those that have no end in the file."""
+        """The transactions that end between these times, and without an end those that are open then."""
         active: dict[tuple[str, int], Found] = {}
         for number, text in lines_of(self.file, low):
             fields = self.fields_of(number, text)
@@ -109,12 +128,13 @@ class Stream:
                 case _:
                     part.end, part.end_line = fields, number
                     del active[key]
-                    self.note_database(fields.get('db', ''))
-                    if seconds(fields['z']) > (high or float('inf')):
-                        return
+                    self.note_database(fields['p'], fields.get('db', ''))
+                    if seconds(fields['z']) > high:
+                        active[key] = replace(part, end=None, end_line=0)
+                        break
                     if part.entries and self.database in (None, fields.get('db', '')):
                         yield part
-        yield from (part for part in active.values() if part.entries)
+        yield from (part for part in active.values() if part.entries and self.may_be_meant(part.session))
 
     def fields_of(self, number: int, text: str) -> dict[str, Any]:
         """The fields of a line; none of one that is cut off, which is noted."""
@@ -130,10 +150,18 @@ class Stream:
             self.cut.append((number, 'a line that is cut off'))
         return {}
 
-    def note_database(self, name: str) -> None:
-        self.databases |= {name} - {''}
-        if self.database is None and len(self.databases) > 1:
-            raise UserError(f'{self.file} has statements of the databases {", ".join(sorted(self.databases))}: choose one with --database')
+    def note_database(self, session: str, name: str) -> None:
+        self.databases[session] = name
+        if self.database is None and len(self.named()) > 1:
+            raise UserError(f'{self.file} has statements of the databases {", ".join(sorted(self.named()))}: choose one with --database')
+
+    def may_be_meant(self, session: str) -> bool:
+        """Whether a session is of the database that is read, as far as that is known."""
+        return self.database is None or self.databases.get(session, self.database) == self.database
+
+    def named(self) -> set[str]:
+        """The names of the databases so far."""
+        return set(self.databases.values()) - {''}
 
     def gaps(self) -> list[tuple[int, str]]:
         """Where lines are missing: a session numbers its lines, in the order in which statements begin."""

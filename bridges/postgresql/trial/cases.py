@@ -22,7 +22,7 @@ DOCTORS = """CREATE TYPE duty AS ENUM ('on call', 'off call');
              CREATE TABLE doctor (id INTEGER PRIMARY KEY, state duty); INSERT INTO doctor VALUES (1, 'on call'), (2, 'on call');
              CREATE TABLE shift (doctor INTEGER, hours INTEGER); INSERT INTO shift VALUES (1, 8);"""
 NEXT = 'UPDATE acct SET bal = bal + 1 WHERE id = 1'     # shows that later transactions find the rows that they found on the server
-UNSAID = re.compile(r'; (\d+) reads cannot be said, so SERIAL and ANOMALIES of this history are incomplete')
+UNSAID = re.compile(r'; (\d+) reads? cannot be said, so SERIAL and ANOMALIES of this history are incomplete')
 PATIENCE = 1.0         # seconds without a reply, after which a statement is taken to wait
 PAUSE = 0.003          # between statements, so that the log's milliseconds tell who committed first where two sessions run the same statement
 

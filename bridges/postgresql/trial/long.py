@@ -227,7 +227,7 @@ def check_slow(found, gprom, source):
     if missing := [name for name, xid in xids.items() if xid not in numbers]:
         return [*failures, f'{missing} not same in the window of {len(verdicts)} transactions: {last}']
     told = re.search(r'^0\t(\d+) transactions of the slot are folded', open_text(window.path(f'{out}.left')), re.M)
-    if not told or int(told[1]) < SLOW_LEAST // 2 or ' others are folded into ' not in last:
+    if not told or int(told[1]) < SLOW_LEAST // 2 or not re.search(' others? (?:is|are) folded into ', last):
         failures.append(f'{told and told[0]!r} is told, and {last}')
     (_, rows), (_, versions) = ask(gprom, window.path(f'{out}.dump'), [
         f"SAW {numbers[xids['cat']]} AFTER 1 SELECT abalance FROM pgbench_accounts WHERE aid = {SLOW_KEY}",
