@@ -15,6 +15,7 @@ LEAD = 2.0               # seconds before a time in which the begin of an open t
 LATE = 1.0               # seconds by which records may stand out of order
 CONTROL = {'BEGIN', 'START TRANSACTION', 'COMMIT', 'ROLLBACK', 'SAVEPOINT', 'RELEASE', 'SET', 'RESET', 'SHOW', 'PREPARE', 'DEALLOCATE',
            'DISCARD ALL', 'PREPARE TRANSACTION'}
+FIRSTS = {tag.split()[0] for tag in CONTROL} | {'END', 'ABORT'}         # the first words of such statements
 ENDS = ('COMMIT', 'ROLLBACK')
 TIMED = re.compile(rb'duration: (\d+\.\d+) ms')
 
@@ -160,7 +161,7 @@ def lights(records: Iterable[Record]) -> Iterator[Grown]:
         seen.add(record.session)
         light.parts.append(record)
         light.end = max(light.end, record.end)
-        more = int(record.tag not in CONTROL)
+        more = statements_in(record)
         light.statements += more
         if record.xid != '0':
             light.xid = record.xid
@@ -168,6 +169,14 @@ def lights(records: Iterable[Record]) -> Iterator[Grown]:
             light.ended = True
             del active[record.session]
         yield Grown(light, is_new, more)
+
+
+def statements_in(record: Record) -> int:
+    """How many statements a message has, as far as its text shows. The tag is that of its last one."""
+    if ';' not in record.text:
+        return int(record.tag not in CONTROL)
+    firsts = (part.split(None, 1)[0].upper() for part in record.text.split(';') if part.strip())
+    return sum(first not in FIRSTS for first in firsts)
 
 
 class CaptureSource:

@@ -12,6 +12,7 @@ NEAR = TRANSACTIONS      # commits on both sides of an incident from which a win
 RESERVE = 150            # statements that are left for touched rows, and for what is patched
 RESERVED = 10            # transactions that are left for starting rows
 LEAST = 20               # statements of a window: with less room it has no sense
+FITS = 0.95              # of the statements that fitted, since those at the begin may be shorter
 BEGAN = 'began before the window'
 Bound = tuple[str, str | int]                         # (kind, value), where the kind is time, xid or line
 
@@ -37,9 +38,10 @@ class Room:
     statements: int = STATEMENTS - RESERVE
     transactions: int = TRANSACTIONS - RESERVED
 
-    def less(self, statements: int, transactions: int) -> 'Room':
-        """The room that is left where a script had so many too many; less by a tenth at least."""
-        return Room(self.statements - max(statements, self.statements // 10), self.transactions - max(transactions, 0))
+    def scaled(self, window: 'Window', statements: float, transactions: float) -> 'Room':
+        """The room in which these shares of a window's statements and transactions fit."""
+        had = min(self.statements, sum(light.statements for light in window.lights)), min(self.transactions, len(window.lights))
+        return Room(int(had[0] * statements * FITS), int(had[1] * transactions * FITS) if transactions < 1 else self.transactions)
 
     def beside(self, statements: int) -> 'Room':
         """The room that is left beside so many statements for starting rows."""

@@ -11,6 +11,7 @@ ADD_TO_ALL = 'UPDATE t SET n = n + 1 WHERE n < 10'
 FROM, TO = 1000.0, 1100.0                               # where the window begins and ends: milliseconds
 BOUNDS = ('--from', moment(FROM), '--to', moment(TO))
 A, B, X = '11', '12', '13'                              # xids: of what session a does, b and x
+MESSAGES = 450                                          # each of ten statements in the script
 SAME = ['', '']                                         # a transaction is neither patched nor uncovered
 
 
@@ -172,6 +173,77 @@ def text_of(old: Row, new: Row) -> str:
     return f'UPDATE t SET id = {new[0]}, n = {new[1]} WHERE id = {old[0]}'
 
 
+# Limits
+
+def statements_of(made: Written) -> int:
+    """How many statements the script has."""
+    return sum(not line.endswith((': COMMIT', ': ROLLBACK')) and ': BEGIN' not in line and 'CREATE TABLE' not in line
+               for line in made.text('script').split('\n')[:-1])
+
+
+def check_many(window: Window, text: str, tag: str, changes: Callable[[int], list[tuple[Row, Row]]]) -> list[str]:
+    """Messages that the log has as one line each, and the script as ten statements: a window has as many as a script takes, and the incident is in it."""
+    made = Written(window)
+    for number in range(MESSAGES):
+        made.commit(str(1000 + number), FROM + 20 * number, *changes(number))
+        made.record('a', FROM + 20 * number + 0.1, 0.5, text, tag)
+    middle, failures = str(1000 + MESSAGES // 2), []
+    for options in (('--around', f't:1@{middle}'), ('--from', f'xid:{middle}')):
+        found = made.convert(*options)
+        wrong = [xid for xid, entry in found.items() if entry[3:] != SAME]
+        failures += [f'{options[0]}: {len(wrong)} of {len(found)} transactions are not the same, such as {found[wrong[0]]}'] if wrong else []
+        failures += [] if middle in found else [f'{options[0]}: the transaction is not in its window']
+        failures += [] if 1500 < statements_of(made) <= 2000 else [f'{options[0]}: {statements_of(made)} statements']
+    return failures
+
+
+def check_many_in_one(window: Window) -> list[str]:
+    """Several statements in a message."""
+    return check_many(window, f'BEGIN; {"; ".join([ADD] * 10)}; COMMIT', 'COMMIT',
+                      lambda number: [((1, n), (1, n + 1)) for n in range(10 * number, 10 * number + 10)])
+
+
+def check_many_of_one(window: Window) -> list[str]:
+    """A statement that stands as the rows that it wrote."""
+    rows = ', '.join(f'({at}, 0)' for at in range(1, 11))
+    return check_many(window, f'INSERT INTO t VALUES {rows} ON CONFLICT (id) DO UPDATE SET n = t.n + 1', 'INSERT',
+                      lambda number: [((at, number), (at, number + 1)) for at in range(1, 11)])
+
+
+def check_many_rows(window: Window) -> list[str]:
+    """Twelve whole tables of as many rows as gprom holds of one: the longest ones are not taken, so that the others fit."""
+    names = [f'w{number:02}' for number in range(12)]
+    made = Written(window, ''.join(f'CREATE TABLE public.{name} (id integer NOT NULL, s text);\n'
+                                   f'ALTER TABLE ONLY public.{name} ADD CONSTRAINT {name}_pkey PRIMARY KEY (id);\n' for name in names))
+    for number, name in enumerate(names):
+        window.save(f'{name}.csv', 'id,s\n' + ''.join(f'{at},{"x" * (190 if number < 4 else 1)}\n' for at in range(10_000)))
+    made.commit(A, FROM + 10.0, ((1, 0), (1, 1)))
+    made.record('a', FROM + 10.1, 0.5, ADD, 'UPDATE')
+    found = made.convert('--around', f't:1@{A}', '--rows', '.')
+    told = made.text('left').count('has too many rows where the window begins')
+    rows = made.text('script').count('), (') + statements_of(made)
+    failures = [] if found.get(A, [])[2:] == ['committed', *SAME] else [f'the transaction is {found.get(A)}']
+    failures += [] if 30_000 < rows <= 50_010 and statements_of(made) <= 1010 else [f'{rows} rows in {statements_of(made)} statements']
+    return failures + ([] if told == len(names) - rows // 10_000 else [f'{told} tables are told not to be taken, with {rows} rows'])
+
+
+def check_rows_in_between(window: Window) -> list[str]:
+    """A transaction that inserts more rows than gprom holds of a table, and deletes them again: it is past a limit, and is told as that."""
+    made = Written(window)
+    window.save('t.csv', 'id,n\n' + ''.join(f'{at},0\n' for at in range(1, 9_991)))
+    rows = [(20_000 + at, 0) for at in range(20)]
+    made.commit(A, FROM + 10.0, ((1, 0), (1, 1)))
+    made.record('a', FROM + 10.1, 0.5, ADD, 'UPDATE')
+    made.record('b', FROM + 20.0, 0.1, 'BEGIN', 'BEGIN', '7')
+    made.record('b', FROM + 21.0, 0.1, f'INSERT INTO t VALUES {str(rows)[1:-1]}', 'INSERT', '7', B)
+    made.record('b', FROM + 22.0, 0.1, 'DELETE FROM t WHERE id >= 20000', 'DELETE', '7', B)
+    made.commit(B, FROM + 23.0, *((None, row) for row in rows), *((row, None) for row in rows))
+    made.record('b', FROM + 23.1, 0.1, 'COMMIT', 'COMMIT')
+    found = made.convert('--from', moment(FROM), '--rows', 't=t.csv')
+    ends = {xid: entry[4] for xid, entry in found.items()}
+    return [] if ends == {A: '', B: 'past a limit of gprom'} else [f'the transactions are {found}']
+
+
 CHECKS: list[tuple[str, Callable[[Window], list[str]]]] = [
     ('a commit before the window', check_committed_before),
     ('a commit in the milliseconds before the window', check_committed_in_slack),
@@ -182,6 +254,10 @@ CHECKS: list[tuple[str, Callable[[Window], list[str]]]] = [
     ('a bound in a text of several lines', check_line_of_text),
     ('reads behind the window', check_reads_behind),
     ('rows of a folder', check_rows_of_folder),
+    ('many statements in a message', check_many_in_one),
+    ('many statements for one', check_many_of_one),
+    ('many rows where a window begins', check_many_rows),
+    ('many rows in between', check_rows_in_between),
 ]
 
 

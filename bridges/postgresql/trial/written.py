@@ -21,10 +21,10 @@ def moment(milliseconds: float) -> str:
 class Written:
     """The log and the slot of a table t (id, n) in the order in which they are written. Times are milliseconds from the begin."""
 
-    def __init__(self, window: Window) -> None:
+    def __init__(self, window: Window, more: str = '') -> None:
         self.window, self.log, self.slot = window, '', ''
         self.numbers: Counter[str] = Counter()          # how many records each session has
-        window.save('tables.sql', TABLES)
+        window.save('tables.sql', TABLES + more)        # with the definitions of more tables
 
     def record(self, session: str, end: float, took: float, text: str, tag: str, virtual: str = '0', xid: str = NONE) -> None:
         """The record of a message that took so long. A server cuts its time to milliseconds. `virtual` is the number of the transaction in its session."""
