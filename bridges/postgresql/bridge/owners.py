@@ -9,21 +9,28 @@ All of this is asked of the commits together: `Owners` gives them transactions i
 wrong. If the cheapest ways differ in who made a commit, nothing tells, and the transactions that may have made it are in doubt.
 """
 from collections import defaultdict, deque
+from collections.abc import Iterable
 from dataclasses import dataclass, replace
 from itertools import accumulate
+from typing import Any
 
 from .csvlog import HALF
+from .decoding import Commit
 from .evaluate import changes
 from .fits import of_statement
 from .history import SLACK
 from .places import Search
-from .steps import reaction
+from .schema import Table
+from .steps import Step, Transaction, reaction
 from .times import to_seconds
 from .versions import Versions
 
 LATE = 0.0003          # seconds that a server may take from the duration of a message to the time of its record, without being held up
 NARROWED, HELD_UP, WEAK, UNSEEN = 1, 1, 3, 4            # costs: narrowed or set off something, a record late, other rows, by a built-in function
 UNUSED, UNLOGGED = 10, 20                               # a statement that writes made no commit; a commit without a record
+Place = tuple[int, ...]                                 # how far each session is in its transactions
+Choice = tuple[Transaction | None, int]                 # a transaction that a commit may be given, and what speaks against it
+Edge = tuple[Place, Place, Transaction | None, int]     # from where to where a commit leads, as that of a transaction, and the cost
 STATES, MARGIN, SURE = 200, 6, 50       # how many States are followed, and how much worse than the best; how many versions are tried to find out that a statement writes
 
 
@@ -32,26 +39,26 @@ class State:
     """A way to give the commits so far their transactions, the cheapest of those that go on alike."""
     cost: float
     far: float                      # how far the records are from their commits, which decides among equal costs
-    before: object = None           # the State before it
-    owner: object = None            # of the last commit
+    before: 'State | None' = None   # the State before it
+    owner: Transaction | None = None        # of the last commit
 
-    def worth(self):
+    def worth(self) -> tuple[float, float]:
         return self.cost, self.far
 
 
 class Queue:
     """The transactions of a session that may have a commit, in order."""
 
-    def __init__(self, last, known, writes):
+    def __init__(self, last: list[int], known: Iterable[bool], writes: Iterable[bool]) -> None:
         self.last, self.ends = last, set(last)        # the last commits that may be theirs
         self.known = list(accumulate(known, initial=0))
         self.writing = list(accumulate(writes, initial=0))
 
-    def unused(self, first, own):
+    def unused(self, first: int, own: int) -> int | None:
         """How many transactions that surely wrote are left without a commit, from one on to another one. None if that is no way to go on."""
         return None if own < first or self.known[own] > self.known[first] else self.writing[own] - self.writing[first]
 
-    def passed(self, first, at):
+    def passed(self, first: int, at: int) -> tuple[int, int]:
         """The first transaction, from one on, that may make a commit from `at` on; and how many before it surely wrote."""
         there = first
         while there < len(self.last) and self.last[there] < at:
@@ -65,21 +72,24 @@ class Owners:
     All commits between the times `since` and `until` are known. A statement that ran across one of them may have committed beside them.
     """
 
-    def __init__(self, tables, start, transactions, commits, since=float('-inf'), until=float('inf')):
+    def __init__(self, tables: dict[str, Table], start: dict[str, list[Any]], transactions: list[Transaction], commits: list[Commit],
+                 since: float = float('-inf'), until: float = float('inf')) -> None:
         self.tables, self.transactions, self.commits, self.since, self.until = tables, transactions, commits, since, until
-        self.versions, self.times = Versions(tables, start), []
+        self.versions = Versions(tables, start)
+        self.times: list[float] = []
         self.known = {t.commit: t for t in transactions if t.commit is not None}
-        self.ways = {}                                # commit -> [(transaction, cost)]
+        self.ways: dict[int, list[tuple[Transaction, int]]] = {}          # commit -> [(transaction, cost)]
+        self.edges: list[list[Edge]] = []
         self.unnamed = [t for t in transactions if is_unnamed(t)]
 
-    def find(self):
+    def find(self) -> None:
         if not self.unnamed or not self.look():
             return
-        queues = defaultdict(list)                    # the transactions of each session that may have a commit, in order
+        queues: dict[str, list[Transaction]] = defaultdict(list)          # the transactions of each session that may have a commit, in order
         for transaction in self.transactions:
             if transaction.commit is not None or is_unnamed(transaction):
                 queues[transaction.session].append(transaction)
-        last = {}                                     # transaction -> the last commit that may be its own
+        last: dict[int, int] = {}                     # transaction -> the last commit that may be its own
         for at in range(len(self.commits)):
             last |= {id(owner): at for owner, _ in self.choices(at) if owner is not None}
         self.queues = [Queue([last.get(id(t), -1) for t in queue], [t.commit is not None for t in queue], [self.surely_writes(t) for t in queue])
@@ -89,7 +99,7 @@ class Owners:
 
     # What each may have made
 
-    def look(self):
+    def look(self) -> bool:
         """Finds the transactions that may have made each commit without a name. False if there is no such commit."""
         for at, commit in enumerate(self.commits):
             self.times.append(max(commit.time, self.times[-1] if self.times else 0.0))
@@ -100,9 +110,9 @@ class Owners:
             self.versions.publish(commit)
         return any(self.ways.values())
 
-    def cost(self, transaction, commit, at):
+    def cost(self, transaction: Transaction, commit: Commit, at: int) -> int | None:
         """What speaks against a transaction as the one that made a commit, or None if it cannot have."""
-        late = transaction.end + HALF - commit.time, commit.time - transaction.started + HALF
+        late = transaction.end + HALF - commit.time, commit.time - (transaction.started or 0.0) + HALF
         if min(late) < -SLACK or transaction.commit is not None and transaction.commit < at:
             return None
         clock = self.clock(transaction, commit)
@@ -110,7 +120,7 @@ class Owners:
         return None if rows is None else rows + clock + HELD_UP * (min(late) < 0)
 
     @staticmethod
-    def clock(transaction, commit):
+    def clock(transaction: Transaction, commit: Commit) -> int | None:
         """The cost of the times in the images: when the transaction began is that of its message, to a millisecond."""
         cost = 0
         for name, at, is_new in {place for step in transaction.steps for place in step.clocks}:
@@ -121,7 +131,7 @@ class Owners:
                 cost = max(cost, HELD_UP * (early > HALF + LATE))
         return cost
 
-    def rows(self, transaction, commit, at):
+    def rows(self, transaction: Transaction, commit: Commit, at: int) -> int | None:
         """The cost of the images, or None if the statements cannot have written them."""
         steps = transaction.writes()
         if all(step.harmless for step in steps):
@@ -140,11 +150,11 @@ class Owners:
             return None
         return NARROWED if any(self.reacts(step) for step in steps) else WEAK
 
-    def reacts(self, step):
+    def reacts(self, step: Step) -> bool:
         """Whether a statement may have written other rows than its text says."""
         return step.statement is not None and bool(reaction(step, self.tables))
 
-    def refutes(self, step, commit):
+    def refutes(self, step: Step, commit: Commit) -> bool:
         """Whether a statement surely wrote other images than these."""
         name = step.statement.table if step.statement else step.target.table
         if name not in self.tables or commit.reason:
@@ -155,9 +165,9 @@ class Owners:
             return bool(mine) and not any(fits(old, new) for _, old, new in mine)
         return not mine or not any(fits(old, new) for _, old, new in mine)
 
-    def surely_writes(self, transaction):
+    def surely_writes(self, transaction: Transaction) -> bool:
         """Whether a transaction without a commit made one of the commits that are known: it wrote rows, whichever version it read."""
-        if transaction.commit is not None or transaction.started - HALF < self.since or transaction.end + HALF > self.until:
+        if transaction.commit is not None or (transaction.started or 0.0) - HALF < self.since or transaction.end + HALF > self.until:
             return False
         for step in transaction.steps:
             statement = step.statement
@@ -173,7 +183,7 @@ class Owners:
 
     # All together
 
-    def layers(self):
+    def layers(self) -> list[dict[Place, State]]:
         """For each number of commits the States, by how far each session is in its transactions."""
         place, _ = self.passed(tuple(0 for _ in self.queues), 0, range(len(self.queues)))
         layers, self.edges = [{place: State(0, 0.0)}], []
@@ -187,12 +197,13 @@ class Owners:
             self.edges.append([edge for edge in edges if edge[1] in layers[-1]])
         return layers
 
-    def after(self, layer, at, choices):
+    def after(self, layer: dict[Place, State], at: int, choices: list[Choice]) -> tuple[dict[Place, State], list[Edge]]:
         """The States behind a commit, given those before it and whose it may be; and the steps from one to the other."""
         commit = self.commits[at]
         ways = [(owner, cost, distance(commit, owner) if owner else 0.0, *self.places.get(id(owner), (None, 0))) for owner, cost in choices]
         ending = {number for number, queue in enumerate(self.queues) if at in queue.ends}
-        found, edges = {}, []
+        found: dict[Place, State] = {}
+        edges: list[Edge] = []
         for place, state in layer.items():
             for owner, cost, far, number, own in ways:
                 after, unused = place, 0
@@ -208,17 +219,17 @@ class Owners:
                     found[then] = State(*worth, state, owner)
         return found, edges
 
-    def choices(self, at):
+    def choices(self, at: int) -> list[Choice]:
         """The transactions that a commit may be given, with their costs."""
         if at in self.known:
             return [(self.known[at], 0)]
         return [*self.ways.get(at, ()), self.nobody(at)]
 
-    def nobody(self, at):
+    def nobody(self, at: int) -> Choice:
         """A commit that the log has no statements of, and its cost."""
         return None, UNLOGGED if self.commits[at].tables else 0
 
-    def passed(self, place, at, numbers):
+    def passed(self, place: Place, at: int, numbers: Iterable[int]) -> tuple[Place, int]:
         """How far the sessions are, where some of them pass the transactions that can make no commit from one on; and how many wrote for nothing."""
         unused = 0
         for number in numbers:
@@ -227,9 +238,11 @@ class Owners:
                 place, unused = (*place[:number], there, *place[number + 1:]), unused + more
         return place, unused
 
-    def choose(self, layers):
+    def choose(self, layers: list[dict[Place, State]]) -> None:
         """Gives the commits their transactions, and says of which there is a doubt."""
-        chosen, owners, state = defaultdict(list), {}, min(layers[-1].values(), key=State.worth)
+        chosen: dict[int, list[int]] = defaultdict(list)
+        owners: dict[int, Transaction] = {}
+        state = min(layers[-1].values(), key=State.worth)
         best, at = state.cost, len(self.commits)
         while state.before is not None:
             at -= 1
@@ -243,11 +256,12 @@ class Owners:
             if id(transaction) in chosen:
                 self.give(transaction, chosen[id(transaction)])
 
-    def note_doubts(self, layers, best):
+    def note_doubts(self, layers: list[dict[Place, State]], best: float) -> None:
         """Notes the transactions of which each may have made a commit, by ways that are equally cheap."""
-        rest = dict.fromkeys(layers[-1], 0)           # the costs from there on
+        rest: dict[Place, int] = dict.fromkeys(layers[-1], 0)           # the costs from there on
         for at in range(len(self.commits) - 1, -1, -1):
-            costs, owners = {}, {}
+            costs: dict[Place, int] = {}
+            owners: dict[int, Transaction] = {}
             for place, then, owner, cost in self.edges[at]:
                 if then in rest and place in layers[at]:
                     total = cost + rest[then]
@@ -260,7 +274,7 @@ class Owners:
                 for owner in owners.values():
                     owner.doubt = owner.doubt or f'log lines {", ".join(map(str, lines))}: which of them committed xid {self.commits[at].xid} is not known'
 
-    def note_missing(self, owners):
+    def note_missing(self, owners: dict[int, Transaction]) -> None:
         """Notes the transactions that may have made another commit than their own, given by `owners`: one that is nobody's, since the log lacks a record.
 
         Then their own commit is nobody's, which another transaction may have made in its turn.
@@ -280,19 +294,19 @@ class Owners:
                     free.append((own, rest))
 
     @staticmethod
-    def may_move(owners, own, at):
+    def may_move(owners: dict[int, Transaction], own: int, at: int) -> bool:
         """Whether no other commit of its session stands between the commit of a transaction and another one."""
         owner = owners[own]
         between = range(min(own, at), max(own, at) + 1)
         return not owner.commits_itself and not any(owners[place].session == owner.session for place in between if place in owners and place != own)
 
     @staticmethod
-    def told(transaction):
+    def told(transaction: Transaction) -> tuple[Any, ...]:
         """What is told of the transaction of a commit: who it is of, and what it ran."""
         return transaction.session, tuple(step.statement.text() if step.statement and not step.statement.needs_images else step.line
                                           for step in transaction.steps)
 
-    def give(self, transaction, commits):
+    def give(self, transaction: Transaction, commits: list[int]) -> None:
         """Gives a transaction its commit. A CALL or a DO that made several becomes as many transactions."""
         at = self.transactions.index(transaction)
         parts = [replace(transaction, steps=[replace(step) for step in transaction.steps], unsaid=[], literals=[]) for _ in commits[1:]]
@@ -301,12 +315,12 @@ class Owners:
         self.transactions[at + 1:at + 1] = parts
 
 
-def is_unnamed(transaction):
+def is_unnamed(transaction: Transaction) -> bool:
     """Whether a transaction committed, may have written rows, and made commits that the log does not name."""
     return (transaction.fate == 'committed' and not transaction.exact and transaction.started is not None and bool(transaction.writes()) and
             (transaction.commit is None and transaction.xid == '0' or transaction.commits_itself))
 
 
-def distance(commit, transaction):
+def distance(commit: Commit, transaction: Transaction) -> float:
     """The seconds between a commit and the millisecond of the log in which the record of its message was written."""
     return max(abs(commit.time - transaction.end) - HALF, 0.0)
