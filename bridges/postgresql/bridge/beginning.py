@@ -49,7 +49,7 @@ def rows_at(slot: Slot, tables: dict[str, Table], given: Rows, first: int, commi
 
 def beyond_limits(whole: Rows) -> list[str]:
     """The longest tables, as many as have to be left out so that the others fit in a script, with room for the window's own statements."""
-    sizes = {name: (sum(1 for _ in inserts(name, rows)), len(rows)) for name, rows in whole.items()}
+    sizes = {name: (len(inserts(name, rows)), len(rows)) for name, rows in whole.items()}
     left_out = []
     while sizes and (sum(count for count, _ in sizes.values()) > MOST_STATEMENTS or sum(count for _, count in sizes.values()) > MOST_ROWS):
         name = max(sizes, key=lambda name: (sizes[name], name))

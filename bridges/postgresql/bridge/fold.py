@@ -15,6 +15,7 @@ from .decoding import Commit
 from .reads import Readers
 from .schema import Table
 from .slots import Slot, Span
+from .words import counted
 
 SLACK = 0.005                     # seconds by which a time of the log may be off
 BESIDE = 64                       # commits among which the times may not stand in order
@@ -130,23 +131,34 @@ class Fold:
         self.meant, self.wrote, self.core = meant, wrote, core
         self.spans = list(self.between(low, high))
         ranks = self.writers()
-        chosen = self.of_log(low, high, ranks)
+        chosen = self.nearest_first(self.of_log(low, high, ranks), low, high)
+        always = self.always(ranks, chosen)
+        kept, xids, commits = self.fitting(self.within(chosen, self.statements, self.transactions), always)
+        near = sum(rank < UNTOUCHED and xid not in xids for xid, rank in ranks.items())
+        return Folded([one.light for one in kept], commits, self.spans[0].at if self.spans else 0, self.earlier, len(self.spans) - len(xids), near)
+
+    @staticmethod
+    def nearest_first(chosen: list[Chosen], low: float, high: float) -> list[Chosen]:
+        """Those that touch the incident more before others, and of these the nearest in time."""
         middles = [t for one in chosen if one.rank == CORE for t in (one.light.start, one.light.end)] or [low, high]
-        chosen.sort(key=lambda one: (one.rank, min(abs(one.light.start - t) for t in middles)))
-        kept = self.within(chosen, self.statements, self.transactions)
-        unlogged = {xid for xid, rank in ranks.items() if rank == WRITES} - {one.light.xid for one in chosen}     # or without an xid in the log
-        always = (core | unlogged if len(unlogged) < self.transactions // 2 else core) & self.places.keys()
+        return sorted(chosen, key=lambda one: (one.rank, min(abs(one.light.start - t) for t in middles)))
+
+    def always(self, ranks: dict[str, int], chosen: list[Chosen]) -> set[str]:
+        """The xids that are kept in any case: those of the incident, and those that write rows of it and have no record in the log, or one without an xid."""
+        unlogged = {xid for xid, rank in ranks.items() if rank == WRITES} - {one.light.xid for one in chosen}
+        return (self.core | unlogged if len(unlogged) < self.transactions // 2 else self.core) & self.places.keys()
+
+    def fitting(self, kept: list[Chosen], always: set[str]) -> tuple[list[Chosen], set[str], list[Commit]]:
+        """As many of the first transactions as fit with what stands for the others; the xids of all that are kept, and the commits."""
         changes = self.changes({one.light.xid for one in kept} | always)
         while True:
             xids = {one.light.xid for one in kept if one.light.xid in self.places} | always
             commits = self.commits(kept, xids, {row: found for row, found in changes.items() if any(change.xid in xids for change in found)})
             folds = [commit for commit in commits if commit.folded]
             statements = sum(one.light.statements for one in kept) + sum(len(commit.changes) for commit in folds)
-            if statements <= self.statements and len(kept) + len(folds) <= self.transactions or len(kept) <= len(core):
-                break
-            kept = kept[:max(len(core), len(kept) * 3 // 4)]
-        near = sum(rank < UNTOUCHED and xid not in xids for xid, rank in ranks.items())
-        return Folded([one.light for one in kept], commits, self.spans[0].at if self.spans else 0, self.earlier, len(self.spans) - len(xids), near)
+            if statements <= self.statements and len(kept) + len(folds) <= self.transactions or len(kept) <= len(self.core):
+                return kept, xids, commits
+            kept = kept[:max(len(self.core), len(kept) * 3 // 4)]
 
     @staticmethod
     def within(chosen: list[Chosen], statements: int, transactions: int) -> list[Chosen]:
@@ -265,13 +277,18 @@ class Fold:
             if span.xid in xids:
                 found.append(self.slot.commit(span, self.tables))
             elif place in placed:
-                mine = [other.xid for other in self.spans[since:place + 1] if other.xid not in xids]
-                commit = Commit(span.xid, self.times[place], folded=f'{len(mine)} transactions, xid {mine[0]} to {mine[-1]}')
-                commit.changes = [(entry.row[0], entry.first.old, entry.last.new) for entry in placed[place]]
-                commit.tables = {entry.row[0] for entry in placed[place]}
-                found.append(commit)
+                others = [other.xid for other in self.spans[since:place + 1] if other.xid not in xids]
+                found.append(self.standing_for(others, span, self.times[place], placed[place]))
                 since = place + 1
         return found
+
+    @staticmethod
+    def standing_for(others: list[str], span: Span, time: float, made: list[Entry]) -> Commit:
+        """The commit that stands for others, the last of which is that of a span."""
+        commit = Commit(span.xid, time, folded=f'{counted(len(others), "transaction")}, xid {others[0]} to {others[-1]}')
+        commit.changes = [(entry.row[0], entry.first.old, entry.last.new) for entry in made]
+        commit.tables = {entry.row[0] for entry in made}
+        return commit
 
     def placed(self, made: list[Entry], folded: list[int]) -> Iterator[tuple[int, Entry]]:
         """(place of a folded commit, entry). As many entries as can stand at one place do."""

@@ -115,9 +115,9 @@ class Owners:
         late = transaction.end + HALF - commit.time, commit.time - (transaction.started or 0.0) + HALF
         if min(late) < -SLACK or transaction.commit is not None and transaction.commit < at:
             return None
-        clock = self.clock(transaction, commit)
-        rows = None if clock is None else self.rows(transaction, commit, at)
-        return None if rows is None else rows + clock + HELD_UP * (min(late) < 0)
+        if (clock := self.clock(transaction, commit)) is None or (rows := self.rows(transaction, commit, at)) is None:
+            return None
+        return rows + clock + HELD_UP * (min(late) < 0)
 
     @staticmethod
     def clock(transaction: Transaction, commit: Commit) -> int | None:
@@ -125,7 +125,7 @@ class Owners:
         cost = 0
         for name, at, is_new in {place for step in transaction.steps for place in step.clocks}:
             for row in (new for table, old, new in commit.changes if table == name and new is not None and (old is None) == is_new):
-                early = transaction.started - to_seconds(row[at].removesuffix('+00')) if row[at] else None
+                early = (transaction.started or 0.0) - to_seconds(row[at].removesuffix('+00')) if row[at] else None
                 if early is None or not -HALF - 2e-6 <= early <= HALF + SLACK:
                     return None
                 cost = max(cost, HELD_UP * (early > HALF + LATE))

@@ -20,6 +20,7 @@ from .stream import Stream
 from .terms import inserts
 from .window import BEGAN, Asked, Room, Window
 from .windows import Chooser, source_of
+from .words import counted
 
 HELD = 10_000            # rows that a table of gprom may have
 
@@ -100,7 +101,7 @@ class Windows:
     @property
     def room(self) -> Room:
         """The room beside the starting rows, as far as they are known before there is a window."""
-        return Room().beside(sum(1 for name, rows in self.rows.items() if len(rows) <= HELD for _ in inserts(name, rows)))
+        return Room().beside(sum(len(inserts(name, rows)) for name, rows in self.rows.items() if len(rows) <= HELD))
 
     def read(self, room: Room) -> Read:
         """The window with this room. The tables are copies, since those of each window have a form of their own."""
@@ -152,9 +153,9 @@ def fold_notes(window: Window) -> Left:
     fold = window.folded
     if fold is None:
         return []
-    told = [(0, f'{fold.count} transactions of the slot are folded, since they would not fit: they do not write rows of the incident, nor read '
-             'what it changes, as far as the log tells')]
-    return told + ([(0, f'of these {fold.near} write rows of the incident, and find no room')] if fold.near else [])
+    told = [(0, f'{counted(fold.count, "transaction of the slot is", "transactions of the slot are")} folded, for lack of room: what is folded does not '
+             'write rows of the incident, nor read what it changes, as far as the log tells')]
+    return told + ([(0, f'of these {counted(fold.near, "writes", "write")} rows of the incident, and found no room')] if fold.near else [])
 
 
 # Starting rows

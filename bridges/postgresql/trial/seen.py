@@ -121,7 +121,7 @@ def finish(given, reads, *sessions):
 
 
 CASES = [
-    Case('commits are seen in another order', in_another_order, NO_STANDBY, 'commits stand in another order than that of the WAL'),
+    Case('commits are seen in another order', in_another_order, NO_STANDBY, 'in another order than that of the WAL'),
     Case('snapshots are not nested', not_nested, NO_STANDBY, 'its snapshot is no version'),
     Case('a hundred subtransactions', many_subtransactions),
 ]
