@@ -16,7 +16,7 @@ from functools import partial
 from bridge import lacks
 
 from . import bench, events, moments as known, workload
-from .judge import CAPTURE, HERE, LOG, ask, call, verified
+from .judge import CAPTURE, HERE, LOG, ask, call, commits_of, verified
 from .replay import Begun, Replay
 from .window import record
 
@@ -315,7 +315,7 @@ def check_readers(found):
 def check_chain(found, gprom):
     """What is wrong with the window that begins with a chained transaction: the one before it has a record, though its end has the number of the next one."""
     window = found.window
-    last = Commits(window.path('slot.txt')).all[-1][0]
+    last = commits_of(window)[-1]                       # behind it may be one of the server's own, which writes no rows
     call_in(window, ['convert', 'log.csv', 'out', '--tables', 'tables.sql', '--slot', 'slot.txt', '--from', f'xid:{last}'], (0,))
     verdicts, _ = verified(window, gprom)
     kinds = {(verdict.verdict, verdict.log_line > 0) for verdict in verdicts if verdict.xid == last}
